@@ -1,0 +1,7 @@
+-- The laws that the crates above cite.
+pub mod Tests
+pub mod FirstLaws
+pub mod EveryLaws
+pub mod Parts
+pub mod Loans
+pub mod SameLaws

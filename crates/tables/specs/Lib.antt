@@ -1,0 +1,11 @@
+-- What the contracts cite, in the order of document 01.
+pub mod Layout
+pub mod Image
+pub mod Header
+pub mod Tidy
+pub mod Columns
+pub mod Rows
+pub mod Selections
+pub mod Values
+pub mod RowFault
+pub mod Lookup

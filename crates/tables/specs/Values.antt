@@ -1,0 +1,93 @@
+-- Kind 4, table 7: the rules of a value (document 01, "Row rules"). Two of them lean on other rows: which value rows the next
+-- list or object claims, and at which level a value stands.
+-- Assumes nothing.
+use Prim.Native.Nat.{ℕ, zero, suc, _+_}
+use mathlib.Core.Bool.{Bool, true, cond, not, _&&_, _||_}
+use mathlib.Core.List.{List}
+use lib.Dec.{eqb, leb, ltb}
+use Rattle.lists.specs.Every.{every, position, total, absent, distinct}
+use Rattle.tables.specs.declared.Range.{Range}
+use Rattle.tables.specs.Layout.{NONE, arguments, values}
+use Rattle.tables.specs.Image.{countAt, rowIn, liesWithin}
+use Rattle.tables.specs.Columns.{null, boolean, list, object, valueKind, valueKey, valueAtom, valueMembers}
+use Rattle.tables.specs.Rows.{isRow}
+
+abbrev pub mostMembers : ℕ
+mostMembers = 256
+
+abbrev pub deepestLevel : ℕ
+deepestLevel = 64
+
+module _ (image : List ℕ) where
+  -- null's atom is 0, boolean's 0 or 1; counts are 0 for kinds 0 to 6
+  unfoldable pub goodAtom : ℕ → Bool
+  goodAtom v =
+      eqb (valueMembers image v .count) 0
+      && cond (eqb (valueKind image v) null) (eqb (valueAtom image v) 0)
+      (cond (eqb (valueKind image v) boolean) (leb (valueAtom image v) 1) true)
+
+  -- the keys of members, by their place
+  abbrev pub keyIn : Range → ℕ → ℕ
+  keyIn rows k = valueKey image (rowIn rows k)
+
+  -- list members have key NONE
+  unfoldable pub goodListKeys : Range → Bool
+  goodListKeys rows = every (rows .count) (λ k. eqb (keyIn rows k) NONE)
+
+  -- object members are at most 256, their keys distinct and not NONE
+  unfoldable pub goodObjectKeys : Range → Bool
+  goodObjectKeys rows = leb (rows .count) mostMembers && absent (rows .count) (keyIn rows) NONE && distinct (rows .count) (keyIn rows)
+
+  unfoldable pub goodKeys : ℕ → Bool
+  goodKeys v = cond (eqb (valueKind image v) list) (goodListKeys (valueMembers image v)) (goodObjectKeys (valueMembers image v))
+
+  -- lists and objects are the values with members
+  unfoldable pub isHolder : ℕ → Bool
+  isHolder v = leb list (valueKind image v)
+
+  -- Lists and objects, in row order, claim the next unclaimed rows, beginning after the arguments: the next, once those before
+  -- row v have theirs.
+  abbrev pub claimed : ℕ → ℕ
+  claimed v = cond (isHolder v) (valueMembers image v .count) 0
+
+  unfoldable pub nextValue : ℕ → ℕ
+  nextValue v = total (countAt image arguments) claimed v
+
+  -- the list or object before row v that has it for a member; v where none has
+  abbrev pub holds : (v u : ℕ) → Bool
+  holds v u = isHolder u && leb (valueMembers image u .first) v && ltb v (valueMembers image u .first + valueMembers image u .count)
+
+  unfoldable pub holderOf : ℕ → ℕ
+  holderOf v = position v (holds v)
+
+  -- Arguments are level 1, members one more; a row that nobody claimed has level 0. Holders are earlier rows, so one step more
+  -- than the row's number suffices.
+  unfoldable pub levelIn : (steps v : ℕ) → ℕ
+  levelIn zero v = 0
+  levelIn (suc steps) v =
+      let above = levelIn steps (holderOf v) in
+      cond (isRow image arguments v) 1 (cond (ltb (holderOf v) v) (suc above) 0)
+
+  unfoldable pub level : ℕ → ℕ
+  level v = levelIn (suc v) v
+
+  -- what a list or an object claims are the next unclaimed rows, which lie after it and inside the table; at level 64 none
+  unfoldable pub goodClaim : (v next at-level : ℕ) → Bool
+  goodClaim v next at-level =
+      ltb v next
+      && eqb (valueMembers image v .first) next
+      && liesWithin (valueMembers image v) (countAt image values)
+      && (ltb at-level deepestLevel || eqb (valueMembers image v .count) 0)
+
+  -- an argument's value has key NONE
+  unfoldable pub goodOwnKey : ℕ → Bool
+  goodOwnKey v = not (isRow image arguments v) || eqb (valueKey image v) NONE
+
+  unfoldable pub valueRule : (v next at-level : ℕ) → Bool
+  valueRule v next at-level =
+      leb (valueKind image v) object
+      && goodOwnKey v
+      && cond (isHolder v) (goodClaim v next at-level && goodKeys v) (goodAtom v)
+
+  unfoldable pub goodValue : ℕ → Bool
+  goodValue v = valueRule v (nextValue v) (level v)
