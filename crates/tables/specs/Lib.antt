@@ -4,6 +4,7 @@ pub mod Image
 pub mod Header
 pub mod Tidy
 pub mod Columns
+pub mod Keys
 pub mod Rows
 pub mod Selections
 pub mod Values

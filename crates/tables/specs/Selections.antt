@@ -9,8 +9,9 @@ use Rattle.lists.specs.Every.{position, total, distinct}
 use Rattle.tables.specs.declared.Range.{Range}
 use Rattle.tables.specs.declared.columns.Selection.{Selection}
 use Rattle.tables.specs.Layout.{NONE, references, operations, fragments, sets, arguments}
-use Rattle.tables.specs.Image.{countAt, rowIn, liesWithin}
-use Rattle.tables.specs.Columns.{field, spread, inline, inputObject, isComposite, innermost, typeKind, setParent, setSelections, argumentName, selectionAt}
+use Rattle.tables.specs.Image.{countAt, liesWithin}
+use Rattle.tables.specs.Columns.{field, spread, inline, inputObject, isComposite, innermost, typeKind, setParent, setSelections, selectionAt}
+use Rattle.tables.specs.Keys.{keyIn}
 use Rattle.tables.specs.Rows.{isRow, setEnd}
 
 abbrev pub mostArguments : ℕ
@@ -31,7 +32,7 @@ module _ (image : List ℕ) where
   goodArguments rows =
       leb (rows .count) mostArguments
       && liesWithin rows (countAt image arguments)
-      && distinct (rows .count) (λ k. argumentName image (rowIn rows k))
+      && distinct (rows .count) (keyIn image arguments rows)
 
   module _ (row : Selection) where
     -- the kind of a field's innermost type

@@ -8,8 +8,9 @@ use lib.Dec.{eqb, leb, ltb}
 use Rattle.lists.specs.Every.{every, position, total, absent, distinct}
 use Rattle.tables.specs.declared.Range.{Range}
 use Rattle.tables.specs.Layout.{NONE, arguments, values}
-use Rattle.tables.specs.Image.{countAt, rowIn, liesWithin}
+use Rattle.tables.specs.Image.{countAt, liesWithin}
 use Rattle.tables.specs.Columns.{null, boolean, list, object, valueKind, valueKey, valueAtom, valueMembers}
+use Rattle.tables.specs.Keys.{keyIn}
 use Rattle.tables.specs.Rows.{isRow}
 
 abbrev pub mostMembers : ℕ
@@ -26,17 +27,13 @@ module _ (image : List ℕ) where
       && cond (eqb (valueKind image v) null) (eqb (valueAtom image v) 0)
       (cond (eqb (valueKind image v) boolean) (leb (valueAtom image v) 1) true)
 
-  -- the keys of members, by their place
-  abbrev pub keyIn : Range → ℕ → ℕ
-  keyIn rows k = valueKey image (rowIn rows k)
-
   -- list members have key NONE
   unfoldable pub goodListKeys : Range → Bool
-  goodListKeys rows = every (rows .count) (λ k. eqb (keyIn rows k) NONE)
+  goodListKeys rows = every (rows .count) (λ k. eqb (keyIn image values rows k) NONE)
 
   -- object members are at most 256, their keys distinct and not NONE
   unfoldable pub goodObjectKeys : Range → Bool
-  goodObjectKeys rows = leb (rows .count) mostMembers && absent (rows .count) (keyIn rows) NONE && distinct (rows .count) (keyIn rows)
+  goodObjectKeys rows = leb (rows .count) mostMembers && absent (rows .count) (keyIn image values rows) NONE && distinct (rows .count) (keyIn image values rows)
 
   unfoldable pub goodKeys : ℕ → Bool
   goodKeys v = cond (eqb (valueKind image v) list) (goodListKeys (valueMembers image v)) (goodObjectKeys (valueMembers image v))

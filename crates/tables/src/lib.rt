@@ -9,6 +9,7 @@ ghost use Rattle.tables.specs.Image.{wordAt, countAt, offsetAt, cellAt, 
 
 pub mod columns;
 pub mod header;
+pub mod keys;
 pub mod lookup;
 pub mod rows;
 
