@@ -1,6 +1,7 @@
 -- Kind 4: the first row rule that is broken, and what is left unclaimed (document 01, the table of kinds).
 -- Assumes nothing.
-use Prim.Native.Nat.{ℕ}
+use Prim.Native.Nat.{ℕ, _<_}
+use mathlib.Core.Path.{_≡_}
 use mathlib.Core.Bool.{Bool, true, not}
 use mathlib.Core.List.{List, [], _∷_}
 use mathlib.Core.Option.{Option, none, some}
@@ -58,3 +59,13 @@ module _ (image : List ℕ) where
   -- kinds 1 and 4: the rows are read only where the header is good
   unfoldable pub imageFault : Option Refusal
   imageFault = headerFault image ▷ rowFault
+
+-- the header is good, and so is every row of the tables below n: what the check of table n may take for granted
+pub record GoodBelow (image : List ℕ) (n : ℕ) : Type 0 where
+  pub header : headerFault image ≡ none
+  pub rows : (t : ℕ) → t < n → (r : ℕ) → r < countAt image t → rowRule image t r ≡ true
+
+-- where the pass over the selections, or over the values, stands: the first bad row, and the next number that its rows leave
+pub record StandsAt (image : List ℕ) (t : ℕ) (next : ℕ → ℕ) (row number : ℕ) : Type 0 where
+  pub at-first-bad : row ≡ firstBad image t
+  pub leaves : number ≡ next row
