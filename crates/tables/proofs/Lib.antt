@@ -5,4 +5,5 @@ pub mod Innermost
 pub mod Faults
 pub mod Tidy
 pub mod Ranges
+pub mod RowLaws
 pub mod Part

@@ -69,3 +69,9 @@ pub record GoodBelow (image : List ℕ) (n : ℕ) : Type 0 where
 pub record StandsAt (image : List ℕ) (t : ℕ) (next : ℕ → ℕ) (row number : ℕ) : Type 0 where
   pub at-first-bad : row ≡ firstBad image t
   pub leaves : number ≡ next row
+
+-- the tables whose rows are judged one by one: all but the selections and the values
+pub record IsPlain (t : ℕ) : Type 0 where
+  pub known : t < 9
+  pub no-selections : t ≡ selections → ⊥
+  pub no-values : t ≡ values → ⊥

@@ -11,6 +11,7 @@ pub mod columns;
 pub mod header;
 pub mod keys;
 pub mod lookup;
+pub mod plain_rows;
 pub mod rows;
 
 pub const NONE: u32 = 4294967295;
