@@ -13,6 +13,17 @@ pub second-of : (a b : Bool) → (a && b) ≡ true → b ≡ true
 second-of true b e = e
 second-of false b e = absurd (false≢true e)
 
+-- three and four tests in a row
+pub all-three : (a b c : Bool) → (a && b && c) ≡ true → (a ≡ true) × (b ≡ true) × (c ≡ true)
+all-three a b c e =
+    let front = first-of (a && b) c e in
+    (first-of a b front, second-of a b front, second-of (a && b) c e)
+
+pub all-four : (a b c d : Bool) → (a && b && c && d) ≡ true → (a ≡ true) × (b ≡ true) × (c ≡ true) × (d ≡ true)
+all-four a b c d e =
+    let front = all-three a b c (first-of (a && b && c) d e) in
+    (front .0, front .1, front .2, second-of (a && b && c) d e)
+
 -- one failure is enough
 pub first-fails : {a : Bool} (b : Bool) → a ≡ false → (a && b) ≡ false
 first-fails b e = rw e

@@ -6,4 +6,5 @@ pub mod Faults
 pub mod Tidy
 pub mod Ranges
 pub mod RowLaws
+pub mod PlainPromise
 pub mod Part

@@ -1,20 +1,22 @@
 -- What a good header promises, once over the number of tables. Assumes nothing.
 use Prim.Native.Nat.{ℕ, suc, _<_, _≤_, zero-le}
 use mathlib.Core.Path.{_≡_}
-use mathlib.Core.List.{List}
+use mathlib.Core.List.{List, map}
 use mathlib.Core.Option.{none}
-use native.Mathlib.Nat.{le-refl, le-of-lt, le-antisymm}
+use native.Mathlib.Nat.{le-refl, le-of-lt}
 use native.Mathlib.Decide.{le-ind}
 use native.Mathlib.Omega.{arith}
 use borrow.Author.Tests.{leb-true, eqb-true}
+use lib.Dec.{leb, leb→le}
 use lib.ListN.{length}
 use Rattle.lists.specs.First.{firstFault}
 use Rattle.lists.proofs.FirstLaws.{first-none, next-none, passed, each-none}
-use Rattle.tables.specs.Layout.{newestEdition, tableCount, mostRows}
+use Rattle.tables.specs.Layout.{Table, edition1, newestEdition, tableCount, mostRows}
 use Rattle.tables.specs.Image.{wordAt, countAt, offsetAt, endOf, startOf}
 use Rattle.tables.specs.Header.{tableFault, editionFault, headerFault}
 use Rattle.tables.specs.Tidy.{Tidy}
-use Rattle.tables.proofs.Widths.{one-edition}
+use Rattle.tables.proofs.Widths.{one-edition, most-of}
+use Rattle.tables.proofs.Lists.{everywhere}
 
 module _ (image : List ℕ) (e n : ℕ) (good : firstFault (tableFault image e) n ≡ none) where
   rows-few : (t : ℕ) → t < n → countAt image t ≤ mostRows e t
@@ -61,3 +63,12 @@ module _ (image : List ℕ) (good : headerFault image ≡ none) where
       let after-new = next-none _ _ after-none in
       let after-total = next-none _ _ after-new in
       tidy image _ _ (first-none _ _ after-total) (eqb-true _ _ (passed _ _ (next-none _ _ after-total)))
+
+-- no table has more rows than the largest limit
+no-limit-over : (e t : ℕ) → mostRows e t ≤ 16384
+no-limit-over e t =
+    rw (most-of e t) (leb→le _ _ (everywhere (λ n. leb n 16384) (map (λ (x : Table). x .most) edition1) 0 tt tt t))
+
+pub few-rows : (image : List ℕ) → headerFault image ≡ none → (t : ℕ) → t < 9 → countAt image t ≤ 16384
+few-rows image good t h =
+    omega (arith, good-header image good .few t (omega (arith, nine-tables (wordAt image 0))), no-limit-over (wordAt image 0) t)

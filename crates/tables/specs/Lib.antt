@@ -9,4 +9,5 @@ pub mod Rows
 pub mod Selections
 pub mod Values
 pub mod RowFault
+pub mod Good
 pub mod Lookup
