@@ -1,5 +1,5 @@
 -- Laws of the first fault of many: `a ▷ b`, and `firstFault`. Assumes nothing.
-use Prim.Native.Nat.{ℕ, zero, suc, _+_, _<_}
+use Prim.Native.Nat.{ℕ, zero, suc, _+_, _<_, _≤_}
 use mathlib.Core.Path.{_≡_, refl, sym, _∙_}
 use mathlib.Core.Bool.{Bool, true, false}
 use mathlib.Core.Option.{Option, none, some}
@@ -38,6 +38,10 @@ module _ {A : Type 0} (fault : ℕ → Option A) where
   unfolding firstFault _▷_
   stays m n x before more this =
       le-ind (λ (k : ℕ). firstFault fault k ≡ some x) (rw (before, this)) (λ k _ ih. rw ih) n more
+
+  pub kept : (m n : ℕ) (x : A) → firstFault fault m ≡ some x → m ≤ n → firstFault fault n ≡ some x
+  unfolding firstFault _▷_
+  kept m n x this more = le-ind (λ (k : ℕ). firstFault fault k ≡ some x) this (λ k _ ih. rw ih) n more
 
   -- where there is none, each is none
   pub each-none : (n : ℕ) → firstFault fault n ≡ none → (t : ℕ) → t < n → fault t ≡ none

@@ -7,4 +7,6 @@ pub mod Tidy
 pub mod Ranges
 pub mod RowLaws
 pub mod PlainPromise
+pub mod RowPass
+pub mod SpecimensHold
 pub mod Part

@@ -21,7 +21,7 @@ use Rattle.tables.specs.Header.{headerFault}
 use Rattle.tables.specs.Rows.{isRow, ascends, goodType, goodChild, goodReference, goodOperation, goodFragment, setStart, goodParent, goodSet, goodArgument, goodVariable}
 use Rattle.tables.specs.Selections.{nextSet}
 use Rattle.tables.specs.Values.{nextValue}
-use Rattle.tables.specs.RowFault.{rowRules, rowRule, firstBad, brokenRow, leftOver, rowFault, imageFault, GoodBelow}
+use Rattle.tables.specs.RowFault.{rowRules, rowRule, firstBad, brokenRow, leftOver, unclaimedFault, rowFault, imageFault, GoodBelow}
 use Rattle.tables.specs.Good as good
 use Rattle.tables.proofs.Tidy.{few-rows}
 use Rattle.tables.proofs.Innermost.{named-core, listed-core}
@@ -46,15 +46,15 @@ module _ (image : List ℕ) where
     every-row t r ht h = rows-good t (each-none (brokenRow image) 9 (first-none _ _ none-in-rows) t ht) r h
 
     pub no-set-left : countAt image sets ≤ nextSet image (countAt image selections)
-    unfolding rowFault leftOver
+    unfolding rowFault unclaimedFault leftOver
     no-set-left = leb-true _ _ (passed _ _ (first-none _ _ (next-none _ _ none-in-rows)))
 
     pub no-selection-left : countAt image selections ≤ setStart image (countAt image sets)
-    unfolding rowFault leftOver
+    unfolding rowFault unclaimedFault leftOver
     no-selection-left = leb-true _ _ (passed _ _ (first-none _ _ (next-none _ _ (next-none _ _ none-in-rows))))
 
     pub no-value-left : countAt image values ≤ nextValue image (countAt image values)
-    unfolding rowFault leftOver
+    unfolding rowFault unclaimedFault leftOver
     no-value-left = leb-true _ _ (passed _ _ (next-none _ _ (next-none _ _ (next-none _ _ none-in-rows))))
 
 -- ---- what the rules of the plain tables say

@@ -11,3 +11,4 @@ pub mod Values
 pub mod RowFault
 pub mod Good
 pub mod Lookup
+pub mod Specimens

@@ -48,13 +48,18 @@ module _ (image : List ℕ) where
   unfoldable pub leftOver : (t claimed : ℕ) → Option Refusal
   leftOver t claimed = expect (leb (countAt image t) claimed) (badRow t (countAt image t))
 
+  -- so many sets and values are claimed, and the selections up to the end of the last set
+  unfoldable pub unclaimedFault : (claimed-sets claimed-values : ℕ) → Option Refusal
+  unclaimedFault claimed-sets claimed-values =
+      leftOver sets claimed-sets ▷
+      leftOver selections (setStart image (countAt image sets)) ▷
+      leftOver values claimed-values
+
   -- lowest table, lowest row; when none, sets, selections, then values left unclaimed
   unfoldable pub rowFault : Option Refusal
   rowFault =
       firstFault brokenRow (length rowRules) ▷
-      leftOver sets (nextSet image (countAt image selections)) ▷
-      leftOver selections (setStart image (countAt image sets)) ▷
-      leftOver values (nextValue image (countAt image values))
+      unclaimedFault (nextSet image (countAt image selections)) (nextValue image (countAt image values))
 
   -- kinds 1 and 4: the rows are read only where the header is good
   unfoldable pub imageFault : Option Refusal

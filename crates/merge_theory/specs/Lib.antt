@@ -1,0 +1,23 @@
+-- The merge walk of 01 and the rule that it decides: all that a reader must believe. The theorems are in proofs/Theorems.antt.
+--     Lists         membership, and the list functions below
+--     Document      an abstract document, and what is assumed of it
+--     Expand        01: expanding, as a relation and by the queue
+--     Groups        01: groups and subgroups
+--     Walk          01: the two passes, known lists, charges
+--     Named         01: which pair is named
+--     Rule          the specification's pairwise rule (October 2021, 5.3.2)
+--     TrueConflict  01: two fields truly conflict
+--     Links         01, kind 7: the links of a chain
+--     Units         01: what the units pay for
+--     Specimens     01: specimens, computed
+pub mod Lists
+pub mod Document
+pub mod Expand
+pub mod Groups
+pub mod Walk
+pub mod Named
+pub mod Rule
+pub mod TrueConflict
+pub mod Links
+pub mod Units
+pub mod Specimens
