@@ -39,6 +39,10 @@ module _ {A : Type 0} (fault : ℕ → Option A) where
   stays m n x before more this =
       le-ind (λ (k : ℕ). firstFault fault k ≡ some x) (rw (before, this)) (λ k _ ih. rw ih) n more
 
+  -- all have been passed
+  pub finishes : (m n : ℕ) → firstFault fault m ≡ none → m ≡ n → none ≡ firstFault fault n
+  finishes m n before all = rw (← all) (sym before)
+
   pub kept : (m n : ℕ) (x : A) → firstFault fault m ≡ some x → m ≤ n → firstFault fault n ≡ some x
   unfolding firstFault _▷_
   kept m n x this more = le-ind (λ (k : ℕ). firstFault fault k ≡ some x) this (λ k _ ih. rw ih) n more

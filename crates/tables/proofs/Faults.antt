@@ -35,9 +35,6 @@ stops fault m n {r} {a} before more this wrong =
     let shown : headerShows r ≡ some (badWord a) = rw wrong in
     shown ∙ sym (stays fault m n (badWord a) before more (sym this ∙ shown))
 
-pub finishes : (fault : ℕ → Option Refusal) (m n : ℕ) → firstFault fault m ≡ none → m ≡ n → none ≡ firstFault fault n
-finishes fault m n before all = rw (← all) (sym before)
-
 -- the words before the tables are right
 pub record Begun (image : List ℕ) (e : ℕ) : Type 0 where
   pub long : headerWords e ≤ length image

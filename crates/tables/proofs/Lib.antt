@@ -4,9 +4,16 @@ pub mod Widths
 pub mod Innermost
 pub mod Faults
 pub mod Tidy
+pub mod Counts
 pub mod Ranges
+pub mod Part
 pub mod RowLaws
 pub mod PlainPromise
+pub mod HomeLaws
+pub mod SelectionLaws
+pub mod SelectionPass
+pub mod LevelLaws
+pub mod ValueRuleLaws
+pub mod ValuePass
 pub mod RowPass
 pub mod SpecimensHold
-pub mod Part

@@ -23,7 +23,7 @@ use Rattle.tables.specs.Selections.{nextSet}
 use Rattle.tables.specs.Values.{nextValue}
 use Rattle.tables.specs.RowFault.{rowRules, rowRule, firstBad, brokenRow, leftOver, unclaimedFault, rowFault, imageFault, GoodBelow}
 use Rattle.tables.specs.Good as good
-use Rattle.tables.proofs.Tidy.{few-rows}
+use Rattle.tables.proofs.Counts.{few-rows}
 use Rattle.tables.proofs.Innermost.{named-core, listed-core}
 
 module _ (image : List ℕ) where

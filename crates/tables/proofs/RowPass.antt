@@ -1,7 +1,7 @@
 -- The pass over all tables: a law for each `return` of the row check. Assumes nothing.
 use Prim.Native.Nat.{ℕ, zero, suc, _+_, _<_, _≤_}
 use mathlib.Core.Path.{_≡_, refl, sym, ap, _∙_}
-use mathlib.Core.Bool.{true}
+use mathlib.Core.Bool.{true, not}
 use mathlib.Core.List.{List}
 use mathlib.Core.Option.{Option, none, some}
 use native.Mathlib.Numerals.{add-one}
@@ -9,15 +9,17 @@ use native.Mathlib.Omega.{arith}
 use borrow.Author.Tests.{le-leb, lt-leb}
 use Rattle.lists.specs.First.{expect, _▷_, firstFault}
 use native.Mathlib.Nat.{le-refl}
-use Rattle.lists.proofs.EveryLaws.{none-bad}
+use Rattle.lists.proofs.EveryLaws.{none-bad, position-le}
 use Rattle.lists.proofs.FirstLaws.{goes-on, stays, kept, each-none}
 use Rattle.tables.specs.Layout.{sets, selections, values}
 use Rattle.tables.specs.Image.{countAt}
-use Rattle.tables.specs.Header.{Refusal, badWord, headerFault}
+use Rattle.tables.specs.Header.{Refusal, badWord, headerShows, headerFault}
 use Rattle.tables.specs.Rows.{setStart}
 use Rattle.tables.specs.Selections.{nextSet}
 use Rattle.tables.specs.Values.{nextValue}
-use Rattle.tables.specs.RowFault.{badRow, rowsShow, firstBad, brokenRow, leftOver, unclaimedFault, rowFault, imageFault, rowRule, GoodBelow}
+use Rattle.tables.specs.RowFault.{StandsAt, badRow, rowsShow, firstBad, brokenRow, leftOver, unclaimedFault, rowFault, imageFault, rowRule, GoodBelow}
+use Rattle.tables.specs.declared.header.Header.{Header}
+use Rattle.tables.specs.declared.header.Header.the-variants.{Wrong}
 use Rattle.tables.specs.declared.rows.Rows.{Rows}
 use Rattle.tables.specs.declared.rows.Rows.the-variants.{Good, BadHeader, BadRow}
 use Rattle.tables.proofs.PlainPromise.{rows-good}
@@ -64,10 +66,12 @@ module _ (image : List ℕ) (n : ℕ) {row : ℕ} (this : row ≡ firstBad image
 pub good-more : (image : List ℕ) (n : ℕ) → GoodBelow image n → {row : ℕ} → row ≡ firstBad image n → countAt image n ≤ row → GoodBelow image (n + 1)
 good-more image n below this h = passed-good image (n + 1) (below .header) (passes image n this (good-tables image n below) h)
 
--- a fault of the lower tables is that of all
-pub lower-breaks : (image : List ℕ) (m : ℕ) (r : Rows) {fault : Refusal} → m ≤ 9 → rowsShow r ≡ some fault → rowsShow r ≡ firstFault (brokenRow image) m → rowsShow r ≡ rowFault image
+-- an answer that is not good after the first tables is that of all
+pub lower-breaks : (image : List ℕ) (m : ℕ) (r : Rows) → m ≤ 9 → (r ≡ Good → ⊥) → rowsShow r ≡ firstFault (brokenRow image) m → rowsShow r ≡ rowFault image
 unfolding rowFault _▷_
-lower-breaks image m r {fault} less shown this = shown ∙ rw (kept (brokenRow image) m 9 fault (sym this ∙ shown) less)
+lower-breaks image m Good less bad this = absurd (bad refl)
+lower-breaks image m (BadHeader word) less bad this = rw (kept (brokenRow image) m 9 (badWord word) (sym this) less)
+lower-breaks image m (BadRow table row) less bad this = rw (kept (brokenRow image) m 9 (badRow table row) (sym this) less)
 
 -- no table is broken: what is left unclaimed decides
 pub all-whole : (image : List ℕ) {claimed-sets claimed-values : ℕ} → firstFault (brokenRow image) 9 ≡ none
@@ -75,6 +79,18 @@ pub all-whole : (image : List ℕ) {claimed-sets claimed-values : ℕ} → first
     → unclaimedFault image claimed-sets claimed-values ≡ rowFault image
 unfolding rowFault _▷_
 all-whole image before s v = rw (before, s, v)
+
+-- a pass that came to the end leaves the number after all rows
+pub leaves-all : (image : List ℕ) (t : ℕ) (next : ℕ → ℕ) {row number : ℕ} → StandsAt image t next row number → countAt image t ≤ row → number ≡ next (countAt image t)
+unfolding firstBad
+leaves-all image t next {row} stands past =
+    let at-most = position-le (countAt image t) (λ r. not (rowRule image t r)) in
+    let all : row ≡ countAt image t = omega (arith, stands .at-first-bad) in
+    stands .leaves ∙ ap next all
+
+-- a good answer shows no fault
+pub shows-no-fault : (r : Rows) {fault : Option Refusal} → r ≡ Good → rowsShow r ≡ fault → fault ≡ none
+shows-no-fault r good this = let shown : rowsShow r ≡ none = rw good in sym this ∙ shown
 
 -- ---- what is left unclaimed
 
@@ -97,3 +113,18 @@ module _ (image : List ℕ) (claimed-sets claimed-values : ℕ) where
       → countAt image values ≤ claimed-values → none ≡ unclaimedFault image claimed-sets claimed-values
   unfolding unclaimedFault leftOver expect _▷_
   nothing-left s t h = rw (le-leb _ _ s, le-leb _ _ t, le-leb _ _ h)
+
+-- ---- the whole
+
+module _ (image : List ℕ) where
+  pub header-refused : {h : Header} {word : ℕ} → headerShows h ≡ headerFault image → h ≡ Wrong word → some (badWord word) ≡ imageFault image
+  unfolding imageFault _▷_
+  header-refused this wrong = let shown = rw wrong at this in rw (← shown)
+
+  pub rows-decide : headerFault image ≡ none → {fault : Option Refusal} → fault ≡ rowFault image → fault ≡ imageFault image
+  unfolding imageFault _▷_
+  rows-decide good this = rw good this
+
+-- a good header, and no table looked at yet
+pub none-yet : (image : List ℕ) → headerFault image ≡ none → GoodBelow image 0
+none-yet image good = record { header = good; rows = λ t ht r h. absurd (omega arith) }

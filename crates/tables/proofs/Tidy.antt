@@ -65,10 +65,6 @@ module _ (image : List ℕ) (good : headerFault image ≡ none) where
       tidy image _ _ (first-none _ _ after-total) (eqb-true _ _ (passed _ _ (next-none _ _ after-total)))
 
 -- no table has more rows than the largest limit
-no-limit-over : (e t : ℕ) → mostRows e t ≤ 16384
+pub no-limit-over : (e t : ℕ) → mostRows e t ≤ 16384
 no-limit-over e t =
     rw (most-of e t) (leb→le _ _ (everywhere (λ n. leb n 16384) (map (λ (x : Table). x .most) edition1) 0 tt tt t))
-
-pub few-rows : (image : List ℕ) → headerFault image ≡ none → (t : ℕ) → t < 9 → countAt image t ≤ 16384
-few-rows image good t h =
-    omega (arith, good-header image good .few t (omega (arith, nine-tables (wordAt image 0))), no-limit-over (wordAt image 0) t)

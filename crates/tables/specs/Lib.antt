@@ -8,6 +8,7 @@ pub mod Keys
 pub mod Rows
 pub mod Selections
 pub mod Values
+pub mod SelectionPass
 pub mod RowFault
 pub mod Good
 pub mod Lookup

@@ -1,6 +1,7 @@
 // The image (document 01, "The image"): its words, tables and cells. Every read is total: a word past the end is 0. So no
 // public function has a `requires`, and each contract is an equation with a definition of specs/, for every image.
-// header: kind 1. columns: the cells by name. rows: kind 4. lookup: the selections of one set.
+// header: kind 1. columns: the cells by name. keys: names of arguments, keys of members. rows: kind 4, over plain_rows, selections
+// and values. lookup: the selections of one set.
 use lists::get;
 ghost use mathlib.Core.Path.{_≡_};
 ghost use Prim.Native.Nat.{_*_, _^_, _<_};
@@ -13,6 +14,8 @@ pub mod keys;
 pub mod lookup;
 pub mod plain_rows;
 pub mod rows;
+mod selections;
+mod values;
 
 pub const NONE: u32 = 4294967295;
 

@@ -4,8 +4,8 @@ use mathlib.Core.Path.{_≡_, refl, sym}
 use Prim.Native.Nat.{_-_, _≤_}
 use borrow.Author.Needs.{needs}
 use native.Mathlib.Omega.{arith}
-use Rattle.lists.proofs.FirstLaws.{goes-on}
-use Rattle.tables.proofs.Faults.{stops, finishes, shows-none}
+use Rattle.lists.proofs.FirstLaws.{goes-on, finishes}
+use Rattle.tables.proofs.Faults.{stops, shows-none}
 use Rattle.lists.specs.First.{firstFault}
 use Rattle.tables.specs.Header.{tableFault}
 use Rattle.tables.proofs.header.check_tables.Statement.{statement}
