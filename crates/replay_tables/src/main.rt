@@ -19,14 +19,17 @@ struct Word {
     value: u32,
 }
 
+// The word that four bytes spell, low byte first.
+fn word_of(a: u8, b: u8, c: u8, d: u8) -> u32 {
+    (a as u32) + 256 * (b as u32) + 65536 * (c as u32) + 16777216 * (d as u32)
+}
+
 fn read_word() -> Word {
     let mut bytes = [0u8; 4];
     let got = io::read_full(0, &mut bytes);
-    let low = (bytes[0] as u32) + 256 * (bytes[1] as u32);
-    let high = (bytes[2] as u32) + 256 * (bytes[3] as u32);
     Word {
         is_there: got == 4,
-        value: low + 65536 * high,
+        value: word_of(bytes[0], bytes[1], bytes[2], bytes[3]),
     }
 }
 
@@ -71,19 +74,19 @@ struct Tally {
 }
 
 fn counted(tally: Tally, agrees: bool) -> Tally {
-    let more: u32 = if agrees { 1 } else { 0 };
+    let cases = one_more(tally.cases);
+    if agrees {
+        let agree = one_more(tally.agree);
+        return Tally { cases, agree };
+    }
     Tally {
-        cases: one_more(tally.cases, 1),
-        agree: one_more(tally.agree, more),
+        cases,
+        agree: tally.agree,
     }
 }
 
-fn one_more(n: u32, more: u32) -> u32 {
-    if n < MOST_CASES && more <= 1 {
-        n + more
-    } else {
-        n
-    }
+fn one_more(n: u32) -> u32 {
+    if n < MOST_CASES { n + 1 } else { n }
 }
 
 struct Tallies {
@@ -121,8 +124,8 @@ fn print(name: &[u8], tally: Tally) {
     io::write_all(1, b" agree\n");
 }
 
-fn main() {
-    let mut space = [0u32; MOST_WORDS];
+// All cases of the input, by way of lent words.
+fn replay_all(space: &mut [u32]) -> Tallies {
     let none = Tally { cases: 0, agree: 0 };
     let mut tallies = Tallies {
         rows: none,
@@ -133,11 +136,17 @@ fn main() {
         left -= 1;
         let form = read_word();
         if form.is_there {
-            tallies = replay(&mut space, tallies, form.value);
+            tallies = replay(space, tallies, form.value);
         } else {
             left = 0;
         }
     }
+    tallies
+}
+
+fn main() {
+    let mut space = [0u32; MOST_WORDS];
+    let tallies = replay_all(&mut space);
     print(b"rows: ", tallies.rows);
     print(b"lookups: ", tallies.lookups);
 }
