@@ -16,4 +16,7 @@ pub mod LevelLaws
 pub mod ValueRuleLaws
 pub mod ValuePass
 pub mod RowPass
+pub mod SelectionPromise
+pub mod ValuePromise
+pub mod Promise
 pub mod SpecimensHold
