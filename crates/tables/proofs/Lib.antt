@@ -6,6 +6,7 @@ pub mod Faults
 pub mod Tidy
 pub mod Counts
 pub mod Ranges
+pub mod ColumnLaws
 pub mod Part
 pub mod RowLaws
 pub mod PlainPromise
