@@ -6,24 +6,10 @@
 An image is described table by table; a damaged one is the description with one thing changed. What each must show is said here
 by hand; that the definitions agree is proved in antt, by computation.
 """
-NONE = 4294967295
-SCALAR, OBJECT, INTERFACE, UNION, ENUM, INPUT = range(6)
-NAMED, NON_NULL, LIST, NON_NULL_LIST = range(4)
-FIELD, SPREAD, INLINE = range(3)
-NULL, BOOLEAN, INT, FLOAT, STRING, ENUM_VALUE, VARIABLE, LIST_VALUE, OBJECT_VALUE = range(9)
-TABLES = ["types", "references", "operations", "fragments", "sets", "selections", "arguments", "values", "variables"]
-
-
-def words(image):
-    """The image's words: header, then the tables one after the other."""
-    tables = [image.get(name, []) for name in TABLES]
-    body = [word for table in tables for row in table for word in row]
-    header, at = [1, 20 + len(body)], 20
-    for table in tables:
-        header += [len(table), at]
-        at += sum(len(row) for row in table)
-    return header + body
-
+from image import (
+    BOOLEAN, FIELD, INLINE, INPUT, INT, INTERFACE, LIST, LIST_VALUE, NAMED, NONE, NON_NULL, NULL, OBJECT,
+    OBJECT_VALUE, SCALAR, SPREAD, VARIABLE, changed, header, longer, words,
+)
 
 EMPTY = {}
 
@@ -63,26 +49,6 @@ WHOLE = {
     ],
     "variables": [(40, 3, 0)],
 }
-
-
-def changed(image, table, row, column, word):
-    """The image with one word of a row changed."""
-    rows = [list(r) for r in image[table]]
-    rows[row][column] = word
-    return {**image, table: rows}
-
-
-def longer(image, table, row):
-    """The image with one row more at the end of a table."""
-    return {**image, table: image.get(table, []) + [row]}
-
-
-def header(image, *changes):
-    """The image's words with some of them changed."""
-    out = words(image)
-    for at, word in changes:
-        out[at] = word
-    return out
 
 
 # title, image or words, then kind, a, b, and for one set its number and the place of its selections

@@ -1,0 +1,8 @@
+-- What the contracts of kinds 5 to 9 cite.
+pub mod Chains
+pub mod Heights
+pub mod Rounds
+pub mod Rules
+pub mod Walks
+pub mod Meaning
+pub mod Specimens

@@ -1,0 +1,31 @@
+-- The walk over reached sets in the lent words behind the heights: what may change there, and what it leaves.
+-- Assumes nothing.
+use Prim.Native.Nat.{ℕ, _*_, _<_, _≤_}
+use mathlib.Core.List.{List}
+use lib.ListN.{length}
+use Rattle.lists.specs.Part.{Stores, Outside}
+use Rattle.tables.specs.Layout.{sets}
+use Rattle.tables.specs.Image.{countAt}
+use Rattle.tables.specs.Good.{Good}
+use Rattle.tables.specs.declared.Range.{Range}
+use Rattle.variable.specs.Reach.{reachedFrom}
+use Rattle.fragment.specs.Rounds.{Measured}
+use Rattle.fragment.specs.Rules.{fragmentsWords}
+
+-- where the words of the walk begin
+abbrev pub behind : List ℕ → ℕ
+behind image = 3 * countAt image sets
+
+-- only the words of the walk have changed: the heights are as before
+abbrev pub HeightsKept : (image s s′ : List ℕ) → Type 0
+HeightsKept image s s′ = Outside (behind image) (2 * countAt image sets) s s′
+
+-- the marks of the sets that a range reaches stand there
+abbrev pub Marked : (image : List ℕ) → Range → List ℕ → Type 0
+Marked image range s = Stores s (behind image) (countAt image sets) (reachedFrom image range .marks)
+
+-- the image is good, there are words enough, and the first hold the heights of all sets
+pub record Ready (image s : List ℕ) : Type 0 where
+  pub good : Good image
+  pub room : fragmentsWords image ≤ length s
+  pub heights : (t : ℕ) → t < countAt image sets → Measured image s t

@@ -1,0 +1,33 @@
+-- Kinds 10 to 17 of one operation, as the code gives them. Assumes nothing.
+use Prim.Native.Nat.{ℕ, _+_, _≤_, _<_}
+use mathlib.Core.Path.{_≡_}
+use mathlib.Core.List.{List}
+use mathlib.Core.Option.{none}
+use lib.ListN.{length, getD}
+use Rattle.merge_theory.specs.Walk.{check}
+use Rattle.tables.specs.Layout.{selections}
+use Rattle.tables.specs.Image.{countAt}
+use Rattle.tables.specs.Good.{Good}
+use Rattle.variable.specs.Uses.{usesWords}
+use Rattle.variable.specs.Verdict.{usageFault}
+use Rattle.fragment.specs.Rules as fragment
+use Rattle.selection.specs.declared.arena.Reply.{Reply}
+use Rattle.selection.specs.Regions.{arenaOf}
+use Rattle.selection.specs.Refining.{replyOf}
+use Rattle.query.specs.Needed.{mostWork}
+use Rattle.query.specs.Reply.{documentOf, ofVariables, orElse}
+
+module _ (image : List ℕ) (work : ℕ) where
+  -- the operation's own answer: kind 0 where it passes, with what is used by then
+  unfoldable pub operationReply : (i used : ℕ) → Reply
+  operationReply i used =
+      let walked = replyOf i (check (documentOf image) work used i) in
+      orElse (ofVariables i used (usageFault image i)) walked
+
+  -- the words that are lent: first those of the rules on variables, behind them those of the walk, where the parents stand
+  pub record Lent (s : List ℕ) : Type 0 where
+    pub good : Good image
+    pub fragments : fragment.fragmentsFault image ≡ none
+    pub limit : work ≤ mostWork
+    pub room : usesWords image + (arenaOf image .store + work + 1 + countAt image selections) ≤ length s
+    pub parents : (r : ℕ) → r < countAt image selections → getD s (usesWords image + r) 0 ≡ documentOf image .parentOf r

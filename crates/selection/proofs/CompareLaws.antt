@@ -1,0 +1,138 @@
+-- The laws of comparing a field with those of a segment: what is left decides. Assumes nothing.
+use mathlib.Core.Path.{_≡_, refl, sym, ap, _∙_}
+use mathlib.Core.Bool.{Bool, true, false}
+use mathlib.Core.Option.{Option, none, some}
+use mathlib.Core.List.{List, [], _∷_, _++_}
+use Prim.Native.Nat.{ℕ, _+_, _-_, _≤_, _<_}
+use native.Mathlib.Omega.{arith}
+use Rattle.merge_theory.specs.Lists.{filter}
+use Rattle.merge_theory.specs.Document.{Cause, shape, name, arguments, numberOf}
+use Rattle.merge_theory.specs.Walk.{Result, finished, conflict, Step, after, settle, against, compareFirst}
+use Rattle.merge_theory.proofs.Loops.{against-append}
+use Rattle.selection.specs.declared.arena.Arena.{Arena}
+use Rattle.selection.specs.declared.arena.Walk as states
+use Rattle.selection.specs.declared.arena.List as places
+use Rattle.selection.specs.declared.groups.Segment.{Segment}
+use Rattle.selection.specs.declared.groups.Part.{Part}
+use Rattle.selection.specs.Places.{rowIn, onward}
+use Rattle.selection.specs.Grouping.{member, memberPlace, partRows, Grounded, PartAt}
+use Rattle.selection.specs.Refining.{document, passOf, replyOf, Holds, Tells}
+use Rattle.selection.specs.Comparing.{kindOfClash, conflicted, ComparesSegment, ComparesPart}
+use Rattle.selection.proofs.PlaceLaws.{seek-ge, Found, filter-here}
+use Rattle.selection.proofs.PartLaws.{member-found}
+use Rattle.selection.proofs.RefineLaws.{some-kind, tells-go, tells-stop}
+
+-- a search goes ahead
+pub member-ahead : (image s : List ℕ) (store : ℕ) (g : Segment) (from end : ℕ) {q : ℕ} → q ≡ memberPlace image s store g from end → from ≤ q
+member-ahead image s store g from end e = rw e (seek-ge _ from end)
+
+no-clash : (o : Option Cause) → kindOfClash o ≡ 0 → o ≡ none
+no-clash none e = refl
+no-clash (some c) e = absurd (some-kind c e)
+
+settled : (s : List ℕ) (store : ℕ) (z : states.Walk) (kind a b : ℕ) (o : Option Cause) (next : Step) → kind ≡ kindOfClash o → (kind ≡ 0 → ⊥)
+    → (ls : List (List ℕ)) (used : ℕ) → Holds s store (z .reply .operation) z ls used → Tells s store (z .reply .operation) (conflicted kind a b z) (settle o a b next ls used)
+unfolding settle
+settled s store z kind a b none next k stop ls used h = absurd (stop k)
+settled s store z kind a b (some c) next k stop ls used h = rw (k, ap (λ r. r .used) (h .reply))
+
+nothing-left : (s : List ℕ) (store : ℕ) (z : states.Walk) (clash : ℕ → ℕ → Option Cause) (a : ℕ) (ls : List (List ℕ)) (used : ℕ) → Holds s store (z .reply .operation) z ls used
+    → Tells s store (z .reply .operation) z (against clash a [] ls used)
+unfolding against
+nothing-left s store z clash a ls used h = h
+
+-- the fields from `from` on have been compared up to a place: those from `at` on are left, and the next of them stands there
+pub record Upto (image s : List ℕ) (arena : Arena) (g : Segment) (isShape : Bool) (a from place : ℕ) (x : places.List) (l : List ℕ) : Type 0 where
+  pub at : ℕ
+  pub low : x .start ≤ at
+  pub found : Found (member (document image) g) x l at place (rowIn s (arena .store) place)
+  pub same : (ls : List (List ℕ)) (used : ℕ) → against (passOf image isShape .clash) a (filter (member (document image) g) (onward x l from)) ls used
+      ≡ against (passOf image isShape .clash) a (filter (member (document image) g) (onward x l at)) ls used
+
+pub record Comparing (image s : List ℕ) (arena : Arena) (g : Segment) (isShape : Bool) (a from end place : ℕ) : Type 0 where
+  pub upto : (x : places.List) (l : List ℕ) → x .end ≡ end → Grounded (document image) image s (arena .store) x l → x .start ≤ from → Upto image s arena g isShape a from place x l
+
+module _ {image s : List ℕ} {arena : Arena} {g : Segment} {isShape : Bool} {a from end : ℕ} where
+  pub comparing-first : {place : ℕ} → place ≡ memberPlace image s (arena .store) g from end → Comparing image s arena g isShape a from end place
+  comparing-first {place} e = record {
+    upto = λ x l is G low. record { at = from; low = low; found = member-found G g from low (e ∙ ap (memberPlace image s (arena .store) g from) (sym is)); same = λ ls used. refl };
+  }
+
+  module _ {place b : ℕ} (c : Comparing image s arena g isShape a from end place) (less : place < end) (row : b ≡ rowIn s (arena .store) place) where
+    -- the field at the place is met next
+    turn : (x : places.List) (l : List ℕ) (is : x .end ≡ end) (G : Grounded (document image) image s (arena .store) x l) (low : x .start ≤ from) (ls : List (List ℕ)) (used : ℕ)
+        → against (passOf image isShape .clash) a (filter (member (document image) g) (onward x l from)) ls used
+        ≡ settle (passOf image isShape .clash a b) a b (against (passOf image isShape .clash) a (filter (member (document image) g) (onward x l (place + 1)))) ls used
+    unfolding against
+    turn x l is G low ls used =
+        let u = c .upto x l is G low in
+        u .same ls used ∙ rw (u .found .here (omega arith), row)
+
+    pub comparing-next : kindOfClash (passOf image isShape .clash a b) ≡ 0 → {next : ℕ} → next ≡ memberPlace image s (arena .store) g (place + 1) end
+        → Comparing image s arena g isShape a from end next
+    unfolding settle
+    comparing-next quiet {next} e = record {
+      upto = λ x l is G low.
+          let u = c .upto x l is G low in
+          let ahead : x .start ≤ place + 1 = omega (arith, u .low, u .found .ahead) in
+          record {
+            at = place + 1;
+            low = ahead;
+            found = member-found G g (place + 1) ahead (e ∙ ap (memberPlace image s (arena .store) g (place + 1)) (sym is));
+            same = λ ls used. turn x l is G low ls used ∙ rw (no-clash (passOf image isShape .clash a b) quiet);
+          };
+    }
+
+    pub comparing-clash : (z : states.Walk) (x : places.List) {kind : ℕ} → x .end ≡ end → kind ≡ kindOfClash (passOf image isShape .clash a b)
+        → (kind ≡ 0 → ⊥) → ComparesSegment image s arena z x g isShape a from (conflicted kind a b z)
+    comparing-clash z x {kind} is k stop = record {
+      same = λ e. absurd (stop e);
+      tells = λ l G low ls used h. rw (turn x l is G low ls used) (settled s (arena .store) z kind a b (passOf image isShape .clash a b) _ k stop ls used h);
+    }
+
+  pub comparing-done : {place : ℕ} → Comparing image s arena g isShape a from end place → end ≤ place → (z : states.Walk) (x : places.List) → x .end ≡ end → ComparesSegment image s arena z x g isShape a from z
+  comparing-done c over z x is = record {
+    same = λ _. refl;
+    tells = λ l G low ls used h. let u = c .upto x l is G low in rw (u .same ls used, u .found .over (omega arith)) (nothing-left s (arena .store) z (passOf image isShape .clash) a ls used h);
+  }
+
+-- ---- a part: the front segment behind its first field, then the back segment
+
+pub part-head : {image s : List ℕ} {store : ℕ} {l rows : List ℕ} {part : Part} → Grounded (document image) image s store (part .list) l → PartAt (document image) s store l part rows
+    → rows ≡ rowIn s store (part .first) ∷ (filter (member (document image) (part .front)) (onward (part .list) l (part .first + 1)) ++ filter (member (document image) (part .back)) (onward (part .list) l (part .next)))
+unfolding partRows
+part-head {image} {l = l} {part = part} G p =
+    sym (p .fields) ∙ ap (λ m. m ++ filter (member (document image) (part .back)) (onward (part .list) l (part .next)))
+    (filter-here (G .list) (member (document image) (part .front)) (part .first) (p .from) (p .below) (p .heads))
+
+module _ {image s : List ℕ} {arena : Arena} {z z₁ : states.Walk} {part : Part} {isShape : Bool} {a : ℕ} (row : a ≡ rowIn s (arena .store) (part .first))
+    (front : ComparesSegment image s arena z (part .list) (part .front) isShape a (part .first + 1) z₁) where
+  -- the two segments in order, from the first field on
+  in-order : (l rows : List ℕ) → Grounded (document image) image s (arena .store) (part .list) l → PartAt (document image) s (arena .store) l part rows → (ls : List (List ℕ)) (used : ℕ)
+      → compareFirst (passOf image isShape .clash) rows ls used
+      ≡ after (against (passOf image isShape .clash) a (filter (member (document image) (part .front)) (onward (part .list) l (part .first + 1))) ls used)
+      (against (passOf image isShape .clash) a (filter (member (document image) (part .back)) (onward (part .list) l (part .next))))
+  unfolding compareFirst
+  in-order l rows G p ls used =
+      rw (part-head G p, ← row)
+      (against-append (passOf image isShape .clash) a (filter (member (document image) (part .front)) (onward (part .list) l (part .first + 1)))
+      (filter (member (document image) (part .back)) (onward (part .list) l (part .next))) ls used)
+
+  pub part-clash : (z₁ .reply .kind ≡ 0 → ⊥) → ComparesPart image s arena z part isShape z₁
+  part-clash stop = record {
+    same = λ e. absurd (stop e);
+    tells = λ l rows G p ls used h.
+        rw (in-order l rows G p ls used) (tells-stop s (arena .store) (z .reply .operation) z₁ _ _ (front .tells l G (omega (arith, p .from)) ls used h) stop);
+  }
+
+  pub part-compared : z₁ .reply .kind ≡ 0 → {z₂ : states.Walk} → ComparesSegment image s arena z₁ (part .list) (part .back) isShape a (part .next) z₂ → ComparesPart image s arena z part isShape z₂
+  part-compared go {z₂} back =
+      let is : z₁ ≡ z = front .same go in
+      let back′ : ComparesSegment image s arena z (part .list) (part .back) isShape a (part .next) z₂ = rw is at back in
+      record {
+        same = back′ .same;
+        tells = λ l rows G p ls used h.
+            rw (in-order l rows G p ls used)
+            (tells-go s s (arena .store) (z .reply .operation) z z₂ _ _ (rw is at (front .tells l G (omega (arith, p .from)) ls used h)) (rw is at go)
+            (λ ls′ used′ h′. back′ .tells l G (p .behind) ls′ used′ h′));
+      }

@@ -1,0 +1,31 @@
+-- The laws of the crate.
+--     ParentsLaws   the parents' loops
+--     OnceLaws      lists without repetition, and the pigeonhole
+--     DocumentLaws  rows of a good image as the document has them
+--     StartLaws     what an expansion may start from
+--     QueueRows     what the queue holds: each set once
+--     ExpandedLaws  what a caller takes from the contracts of expanding
+--     StepLaws      a row done, by its kind, and rows in order
+--     ExpandWalk    the loop over the queue
+--     KnownLaws     the store of known lists
+--     PlaceLaws     searches for a place of a list
+--     PartLaws      the places of groups and subgroups are those of the merge theory
+--     RefineLaws    steps of the code put together
+--     MeetLaws      merged sets expanded and met
+--     CompareLaws   a field against those of a segment
+--     QueueingLaws  the sets of a part are queued
+pub mod ParentsLaws
+pub mod OnceLaws
+pub mod DocumentLaws
+pub mod StartLaws
+pub mod ExpandedLaws
+pub mod QueueRows
+pub mod StepLaws
+pub mod ExpandWalk
+pub mod KnownLaws
+pub mod PlaceLaws
+pub mod PartLaws
+pub mod RefineLaws
+pub mod MeetLaws
+pub mod CompareLaws
+pub mod QueueingLaws

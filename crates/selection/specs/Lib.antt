@@ -1,0 +1,11 @@
+-- What the contracts cite.
+pub mod ImageDocument
+pub mod Regions
+pub mod Expanding
+pub mod ExpandSteps
+pub mod Parents
+pub mod KnownLists
+pub mod Places
+pub mod Grouping
+pub mod Refining
+pub mod Comparing

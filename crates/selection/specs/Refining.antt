@@ -1,0 +1,198 @@
+-- How the code of the walk is held to the merge theory's walk. Assumes nothing.
+--     document image         the image as the merge theory's document
+--     Tells s store op z r   the words and the state z say what the result r of a walk is; nothing is asked of `deep`
+--     Ample work more z      what keeps the state's numbers small, whatever the image is
+--     Site ..                what a step needs of the image, the words and the state
+--     Rows ..                what is known of the rows of a list
+--     Kept ..                what stays: the parents, the known lists, and what lies behind the room
+--     Refines step ..        code that goes from s and z to s′ and z′ does what the step does
+use mathlib.Core.Path.{_≡_}
+use mathlib.Core.Bool.{Bool, true, false, cond}
+use mathlib.Core.List.{List, [], _∷_, _++_}
+use Prim.Native.Nat.{ℕ, zero, suc, _+_, _-_, _≤_, _<_}
+use lib.Dec.{eqb, leb}
+use lib.ListN.{length, getD, set}
+use Rattle.lists.specs.Part.{Stores}
+use Rattle.merge_theory.specs.Lists.{_∈_, Every, flatMap, isKnown}
+use Rattle.merge_theory.specs.Document.{Document, Cause, numberOf, FieldAt, Sound}
+use Rattle.merge_theory.specs.Rule.{Reached}
+use Rattle.merge_theory.specs.Walk.{Result, finished, conflict, out, deep, Step, _then_, Pass, shapePass, parentPass, compareFirst, descend, setsBelow, walkParts, walk}
+use Rattle.tables.specs.Layout.{selections}
+use Rattle.tables.specs.Image.{countAt}
+use Rattle.tables.specs.Good.{Good}
+use Rattle.values.specs.Same.{sameArguments}
+use Rattle.values.specs.Shape.{sameShape}
+use Rattle.selection.specs.declared.arena.Arena.{Arena}
+use Rattle.selection.specs.declared.arena.Reply.{Reply}
+use Rattle.selection.specs.declared.arena.Walk as states
+use Rattle.selection.specs.declared.arena.List as places
+use Rattle.selection.specs.declared.expand.Expansion.{Expansion}
+use Rattle.selection.specs.declared.walk.Met.{Met}
+use Rattle.selection.specs.ImageDocument.{documentBy}
+use Rattle.selection.specs.Regions.{arenaOf}
+use Rattle.selection.specs.Expanding.{MarksBelow, Once, StartSet}
+use Rattle.selection.specs.KnownLists.{Known, AtHand, Decides}
+
+abbrev pub document : List ℕ → Document
+document image = documentBy (sameShape image) (sameArguments image) image
+
+abbrev pub passOf : List ℕ → Bool → Pass
+passOf image true = shapePass (document image)
+passOf image false = parentPass (document image)
+
+-- no budget is larger: kind 2 is given before
+abbrev pub mostWork : ℕ
+mostWork = 1000000
+
+-- ---- what a state says
+
+abbrev pub replyOf : ℕ → Result → Reply
+replyOf op (finished ls used) = record { kind = 0; operation = op; a = 0; b = 0; used = used }
+replyOf op (conflict c a b used) = record { kind = numberOf c; operation = op; a = a; b = b; used = used }
+replyOf op (out used) = record { kind = 17; operation = op; a = 0; b = 0; used = used }
+replyOf op deep = record { kind = 0; operation = op; a = 0; b = 0; used = 0 }
+
+pub record Holds (s : List ℕ) (store op : ℕ) (z : states.Walk) (ls : List (List ℕ)) (used : ℕ) : Type 0 where
+  pub known : Known s store (z .known) ls
+  pub reply : z .reply ≡ replyOf op (finished ls used)
+
+abbrev pub Tells : List ℕ → ℕ → ℕ → states.Walk → Result → Type 0
+Tells s store op z (finished ls used) = Holds s store op z ls used
+Tells s store op z (conflict c a b used) = z .reply ≡ replyOf op (conflict c a b used)
+Tells s store op z (out used) = z .reply ≡ replyOf op (out used)
+Tells s store op z deep = Unit {0}
+
+-- ---- a charge, and a list that is met
+
+unfoldable pub charged : ℕ → ℕ → states.Walk → states.Walk
+charged work cost z =
+    cond (leb (z .reply .used + cost) work)
+    (record {
+      reply = record { kind = z .reply .kind; operation = z .reply .operation; a = z .reply .a; b = z .reply .b; used = z .reply .used + cost };
+      known = z .known;
+      expansions = z .expansions;
+    })
+    (record {
+      reply = record { kind = 17; operation = z .reply .operation; a = z .reply .a; b = z .reply .b; used = z .reply .used };
+      known = z .known;
+      expansions = z .expansions;
+    })
+
+abbrev pub lengthOf : places.List → ℕ
+lengthOf x = x .end - x .start
+
+-- a list that is not known, paid or not
+unfoldable pub entered : places.List → states.Walk → Met
+entered x paid =
+    cond (eqb (paid .reply .kind) 0)
+    (record { walk = record { reply = paid .reply; known = x .end; expansions = paid .expansions }; list = x; deeper = true })
+    (record { walk = paid; list = x; deeper = false })
+
+unfoldable pub metList : ℕ → states.Walk → places.List → Bool → Met
+metList work z x old =
+    cond old (record { walk = charged work 1 z; list = x; deeper = false }) (entered x (charged work (1 + lengthOf x) z))
+
+unfoldable pub metWords : ℕ → ℕ → states.Walk → places.List → Bool → List ℕ → List ℕ
+metWords store work z x old s =
+    cond old s (cond (eqb (charged work (1 + lengthOf x) z .reply .kind) 0) (set s (store + z .known) (lengthOf x)) s)
+
+pub record MeetsList (s s′ : List ℕ) (store work : ℕ) (z : states.Walk) (x : places.List) (r : Met) : Type 0 where
+  pub old : Bool
+  pub decides : Decides s store (z .known) x old
+  pub result : r ≡ metList work z x old
+  pub words : s′ ≡ metWords store work z x old s
+
+-- ---- whatever the image is
+
+-- the words that known lists take, and the expansions made, are no more than the units charged
+pub record Ample (work more : ℕ) (z : states.Walk) : Type 0 where
+  pub going : z .reply .kind ≡ 0
+  pub paid : z .known ≤ z .reply .used
+  pub few : z .known ≤ mostWork
+  pub counted : z .expansions ≤ z .reply .used + more
+  pub countable : z .expansions ≤ mostWork + more
+  pub budget : work ≤ mostWork
+
+-- an expansion that begins behind the known lists, under the next number
+pub record Begun (z : states.Walk) (x : Expansion) : Type 0 where
+  pub listed : x .listed ≡ z .known + 1
+  pub number : x .number ≡ z .expansions + 1
+
+-- ---- steps
+
+module _ (image : List ℕ) (arena : Arena) (work op : ℕ) where
+  -- the sets that the operation reaches
+  abbrev pub Hand : ℕ → Type 0
+  Hand = Reached (document image) op
+
+  pub record Site (s : List ℕ) (z : states.Walk) : Type 0 where
+    pub good : Good image
+    pub regions : arena ≡ arenaOf image
+    pub sound : Sound (document image) Hand
+    pub parents : (r : ℕ) → r < countAt image selections → getD s r 0 ≡ document image .parentOf r
+    pub room : arena .store + work + 1 + countAt image selections ≤ length s
+    pub marks : MarksBelow image arena s (z .expansions + 1)
+    pub within : z .reply .used ≤ work
+
+  pub record Rows (l : List ℕ) : Type 0 where
+    pub fields : Every (FieldAt (document image) Hand) l
+    pub inside : Every (λ f. f < countAt image selections) l
+    pub once : Once l
+
+  pub record Kept (s s′ : List ℕ) (z z′ : states.Walk) : Type 0 where
+    pub long : length s′ ≡ length s
+    pub parents : (k : ℕ) → k < arena .marks → getD s′ k 0 ≡ getD s k 0
+    pub known : (k : ℕ) → arena .store ≤ k → k < arena .store + z .known → getD s′ k 0 ≡ getD s k 0
+    pub beyond : (k : ℕ) → arena .store + work + 1 + countAt image selections ≤ k → getD s′ k 0 ≡ getD s k 0
+    pub grows : z .known ≤ z′ .known
+
+  pub record Refines (step : Step) (s s′ : List ℕ) (z z′ : states.Walk) : Type 0 where
+    pub tells : (ls : List (List ℕ)) (used : ℕ) → Holds s (arena .store) op z ls used → Tells s′ (arena .store) op z′ (step ls used)
+    pub site : z′ .reply .kind ≡ 0 → Site s′ z′
+    pub kept : Kept s s′ z z′
+
+  -- ---- the walk of a list, and of a part of it
+
+  -- a list's parts, with levels to go: `walk` after its list is noted
+  unfoldable pub walkList : Pass → ℕ → List ℕ → Step
+  walkList P zero l ls used = deep
+  walkList P (suc levels) l ls used = walkParts (document image) P (walk (document image) P work levels) (P .parts l) ls used
+
+  -- merged sets, if there are any
+  abbrev pub lower : Pass → ℕ → List ℕ → Step
+  lower P levels sets = descend (walk (document image) P work levels) sets
+
+  abbrev pub onePart : Pass → ℕ → List ℕ → Step
+  onePart P levels rows = compareFirst (P .clash) rows then lower P levels (setsBelow (document image) rows)
+
+  -- a list that was entered: it stands in the store, and the step goes on as its walk
+  pub record Entered (step : Pass → ℕ → Step) (s s′ : List ℕ) (z : states.Walk) (m : Met) : Type 0 where
+    pub list : List ℕ
+    pub stands : AtHand s′ (arena .store) (m .list) list
+    pub ordered : m .list .start ≤ m .list .end
+    pub rows : Rows list
+    pub stored : m .list .end ≤ m .walk .known
+    pub site : Site s′ (m .walk)
+    pub kept : Kept s s′ z (m .walk)
+    pub goes : (ls : List (List ℕ)) (used : ℕ) → Holds s (arena .store) op z ls used
+        → Holds s′ (arena .store) op (m .walk) (ls ++ list ∷ []) (used + suc (length list))
+    pub same : (P : Pass) (levels : ℕ) (ls : List (List ℕ)) (used : ℕ) → Holds s (arena .store) op z ls used
+        → step P levels ls used ≡ walkList P levels list (ls ++ list ∷ []) (used + suc (length list))
+
+  -- what has been met: the step is done, or a list was entered
+  pub record Meets (step : Pass → ℕ → Step) (s s′ : List ℕ) (z : states.Walk) (m : Met) : Type 0 where
+    pub done : m .deeper ≡ false → (P : Pass) (levels : ℕ) → Refines (step P levels) s s′ z (m .walk)
+    pub entered : m .deeper ≡ true → Entered step s s′ z m
+
+  -- sets that stand in the queue: what may be merged
+  pub record Queued (s : List ℕ) (x : Expansion) (sets : List ℕ) : Type 0 where
+    pub queue : Stores s (arena .queue) (x .queued) sets
+    pub allowed : Every (StartSet image) sets
+    pub once : Once sets
+    pub hand : Every Hand sets
+
+-- merged sets are expanded, and their list is met
+pub record MeetsSets (image : List ℕ) (arena : Arena) (work : ℕ) (s s′ : List ℕ) (z : states.Walk) (x : Expansion) (m : Met) : Type 0 where
+  pub ample : m .walk .reply .kind ≡ 0 → Ample work 0 (m .walk)
+  pub meets : (sets : List ℕ) → Site image arena work (z .reply .operation) s z → Queued image arena work (z .reply .operation) s x sets
+      → Meets image arena work (z .reply .operation) (λ P levels. walk (document image) P work levels sets) s s′ z m

@@ -1,0 +1,11 @@
+// The merge walk (kinds 14 to 17). A list is an expanded list of field rows. It is written in place at the end of the store of
+// known lists, as its length and then its rows, and stays there where it is new and paid.
+// arena: the regions of the lent words, and the walk's state. parents: the parent type of each selection's set.
+// expand: from a queue of sets to the list of their fields. known: the store of the lists that were met.
+// groups: groups and subgroups of a list, by places.
+pub mod arena;
+pub mod expand;
+pub mod known;
+pub mod parents;
+mod groups;
+mod walk;

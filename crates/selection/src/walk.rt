@@ -1,0 +1,232 @@
+// The two passes of the merge walk over one operation, and what they charge. Every function ends and stays inside its words on
+// any image; what it yields is the merge theory's walk where the image is good and the operation's sets are sound.
+use crate::arena::Arena;
+use crate::arena::List;
+use crate::arena::Walk;
+use crate::expand::Expansion;
+use crate::expand::expand_selections;
+use crate::expand::queue_set;
+use crate::groups::Part;
+use crate::groups::Segment;
+use crate::groups::find_member;
+use crate::groups::row_at;
+use crate::known::is_known;
+use crate::known::keep;
+use crate::known::list_length;
+use tables::NONE;
+use tables::columns::field_arguments;
+use tables::columns::field_name;
+use tables::columns::field_type;
+use tables::columns::is_empty_set;
+use tables::columns::selection_target;
+use values::same_arguments;
+use values::shape::same_output_type_shape;
+ghost use mathlib.Core.Path.{_≡_};
+ghost use mathlib.Core.Bool.{true, false};
+ghost use Prim.Native.Nat.{_+_, _<_};
+ghost use Rattle.selection.specs.Refining.{charged, MeetsList, Ample, Begun, MeetsSets, passOf};
+ghost use Rattle.selection.specs.Comparing.{kindOfClash, conflicted, ComparesSegment, ComparesPart, fieldNext, fieldWords, QueuesSegment, QueuesPart};
+
+// What has been met: the list, and whether it is new and paid, so that the walk goes deeper into it.
+pub struct Met {
+    pub walk: Walk,
+    pub list: List,
+    pub deeper: bool,
+}
+
+// One unit and as many as there are rows are charged, or the reply is 17 where that would pass the budget.
+fn charge(walk: Walk, work: u32, rows: u32) -> Walk
+    ensures { λ r. ⌜ r ≡ charged work (1 + rows) walk ⌝ }
+{
+    let mut next = walk;
+    let used = walk.reply.used;
+    let sum = (used as u64) + (1 + (rows as u64));
+    if sum <= (work as u64) {
+        let more = sum as u32;
+        next.reply.used = more;
+    } else {
+        next.reply.kind = 17;
+    }
+    next
+}
+
+// The list at hand is met: charged, and kept where it is new and paid.
+fn meet_list(s: &mut [u32], arena: Arena, work: u32, walk: Walk, list: List) -> Met
+    ensures { λ r. ⌜ MeetsList (now (s .entry)) (now (s .exit)) (arena .store) work walk list r ⌝ }
+{
+    if is_known(&s[..], arena, walk.known, list) {
+        let paid = charge(walk, work, 0);
+        return Met {
+            walk: paid,
+            list,
+            deeper: false,
+        };
+    }
+    let mut paid = charge(walk, work, list_length(list));
+    let kind = paid.reply.kind;
+    if kind != 0 {
+        return Met {
+            walk: paid,
+            list,
+            deeper: false,
+        };
+    }
+    let known = keep(s, arena, walk.known, list);
+    paid.known = known;
+    Met {
+        walk: paid,
+        list,
+        deeper: true,
+    }
+}
+
+// An expansion whose queue is empty yet.
+fn begin_expansion(work: u32, walk: Walk) -> Expansion
+    requires { ⌜ Ample work 0 walk ⌝ }
+    ensures { λ r. ⌜ Begun walk r × (r .queued ≡ 0) ⌝ }
+{
+    let listed = walk.known + 1;
+    let number = walk.expansions + 1;
+    Expansion {
+        queued: 0,
+        listed,
+        number,
+    }
+}
+
+// The queued sets are expanded, and their list is met.
+fn meet_sets(image: &[u32], s: &mut [u32], arena: Arena, work: u32, walk: Walk, x: Expansion) -> Met
+    requires { ⌜ Ample work 0 walk × Begun walk x ⌝ }
+    ensures { λ r. ⌜ MeetsSets (now (image .entry)) arena work (now (s .entry)) (now (s .exit)) walk x r ⌝ }
+{
+    let start = x.listed;
+    let end = expand_selections(image, s, arena, x);
+    let list = List { start, end };
+    let mut next = walk;
+    let number = x.number;
+    next.expansions = number;
+    meet_list(s, arena, work, next, list)
+}
+
+// 14 where two fields differ in shape, else 0.
+fn shape_clash(image: &[u32], a: u32, b: u32) -> u32
+    ensures { λ r. ⌜ r ≡ kindOfClash (passOf (now (image .entry)) true .clash a b) ⌝ }
+{
+    if same_output_type_shape(image, field_type(image, a), field_type(image, b)) { 0 } else { 14 }
+}
+
+// 15 or 16 where two fields differ in name or arguments, else 0.
+fn same_name_and_arguments(image: &[u32], a: u32, b: u32) -> u32
+    ensures { λ r. ⌜ r ≡ kindOfClash (passOf (now (image .entry)) false .clash a b) ⌝ }
+{
+    if field_name(image, a) != field_name(image, b) {
+        return 15;
+    }
+    if same_arguments(image, field_arguments(image, a), field_arguments(image, b)) { 0 } else { 16 }
+}
+
+// What two fields of one part conflict in, in the shape pass or in the parent pass.
+fn clash(image: &[u32], shape: bool, a: u32, b: u32) -> u32
+    ensures { λ r. ⌜ r ≡ kindOfClash (passOf (now (image .entry)) shape .clash a b) ⌝ }
+{
+    if shape {
+        return shape_clash(image, a, b);
+    }
+    same_name_and_arguments(image, a, b)
+}
+
+fn conflict(walk: Walk, kind: u32, a: u32, b: u32) -> Walk
+    ensures { λ r. ⌜ r ≡ conflicted kind a b walk ⌝ }
+{
+    let mut next = walk;
+    next.reply.kind = kind;
+    next.reply.a = a;
+    next.reply.b = b;
+    next
+}
+
+// A field against those of a segment from a place on, in order.
+fn compare_segment(
+    image: &[u32],
+    s: &[u32],
+    arena: Arena,
+    walk: Walk,
+    list: List,
+    segment: Segment,
+    shape: bool,
+    a: u32,
+    from: u32,
+) -> Walk
+    ensures { λ r. ⌜ ComparesSegment (now (image .entry)) (now (s .entry)) arena walk list segment shape a from r ⌝ }
+{
+    let end = list.end;
+    let mut place = find_member(image, s, arena, segment, from, end);
+    while place < end {
+        let b = row_at(s, arena, place);
+        let kind = clash(image, shape, a, b);
+        if kind != 0 {
+            return conflict(walk, kind, a, b);
+        }
+        place = find_member(image, s, arena, segment, place + 1, end);
+    }
+    walk
+}
+
+// The first field of a part against each other, in order.
+fn compare_part(image: &[u32], s: &[u32], arena: Arena, walk: Walk, part: Part, shape: bool) -> Walk
+    requires { ⌜ part .first < part .list .end ⌝ }
+    ensures { λ r. ⌜ ComparesPart (now (image .entry)) (now (s .entry)) arena walk part shape r ⌝ }
+{
+    let a = row_at(s, arena, part.first);
+    let front = compare_segment(image, s, arena, walk, part.list, part.front, shape, a, part.first + 1);
+    let kind = front.reply.kind;
+    if kind != 0 {
+        return front;
+    }
+    compare_segment(image, s, arena, front, part.list, part.back, shape, a, part.next)
+}
+
+// The set of a field is queued, if it has one that is not empty.
+fn queue_field(image: &[u32], s: &mut [u32], arena: Arena, x: Expansion, row: u32) -> Expansion
+    ensures { λ r. ⌜ (r ≡ fieldNext (now (image .entry)) arena x row) × (now (s .exit) ≡ fieldWords (now (image .entry)) arena x (now (s .entry)) row) ⌝ }
+{
+    let set = selection_target(image, row);
+    if set == NONE {
+        return x;
+    }
+    if is_empty_set(image, set) {
+        return x;
+    }
+    queue_set(s, arena, x, set)
+}
+
+// The sets of a segment's fields from a place on are queued.
+fn queue_segment(
+    image: &[u32],
+    s: &mut [u32],
+    arena: Arena,
+    x: Expansion,
+    list: List,
+    segment: Segment,
+    from: u32,
+) -> Expansion
+    ensures { λ r. ⌜ QueuesSegment (now (image .entry)) arena (now (s .entry)) (now (s .exit)) x r list segment from ⌝ }
+{
+    let end = list.end;
+    let mut next = x;
+    let mut place = find_member(image, &s[..], arena, segment, from, end);
+    while place < end {
+        let row = row_at(&s[..], arena, place);
+        next = queue_field(image, s, arena, next, row);
+        place = find_member(image, &s[..], arena, segment, place + 1, end);
+    }
+    next
+}
+
+// The sets of a part's fields are queued.
+fn queue_part(image: &[u32], s: &mut [u32], arena: Arena, x: Expansion, part: Part) -> Expansion
+    ensures { λ r. ⌜ QueuesPart (now (image .entry)) arena (now (s .entry)) (now (s .exit)) x r part ⌝ }
+{
+    let front = queue_segment(image, s, arena, x, part.list, part.front, part.first);
+    queue_segment(image, s, arena, front, part.list, part.back, part.next)
+}

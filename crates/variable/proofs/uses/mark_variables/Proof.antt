@@ -1,0 +1,43 @@
+-- `uses::mark_variables` meets its contract. The loop's invariant: the rows passed are used as they should. Assumes nothing.
+use native.Mathlib.Omega.{arith}
+use borrow.Author.Needs.{needs}
+use Prim.Native.Nat.{_-_, _≤_}
+use Rattle.variable.proofs.UseLaws.{Passing, passing-begins, passing-on, passing-ends}
+use Rattle.variable.proofs.uses.mark_variables.Statement.{statement}
+use Rattle.variable.proofs.uses.mark_variables.Tie as tie
+
+abbrev Inv-loop : tie.InvT-loop
+Inv-loop image s₀ variables rows end₀ row₀ s end row = (row ≤ rows) × Passing image variables s₀ s row end
+
+abbrev μ-loop : tie.MeasureT-loop
+μ-loop image s₀ variables rows end₀ row₀ s end row = rows - row
+
+loop-holds : tie.Need-loop-holds Inv-loop μ-loop
+loop-holds c = (omega arith, passing-begins _ _)
+
+loop-less : tie.Need-loop-less Inv-loop μ-loop
+loop-less c = omega arith
+
+loop-again : tie.Need-loop-again Inv-loop μ-loop
+loop-again c = (omega arith, passing-on _ _ (c .before .before .before .before .before .loop .inv .1) (c .before .before .pass-row .ensures))
+
+same-length : tie.Need-same-length Inv-loop μ-loop
+same-length c = c .before .loop .inv .1 .frame .long
+
+returns : tie.Need-returns Inv-loop μ-loop
+returns c = passing-ends _ _ (c .before .loop .inv .1) (omega arith)
+
+pub mark-variables-spec : {M : Type 1} → statement M
+mark-variables-spec =
+    tie.close
+    (tie.spec
+    Inv-loop
+    μ-loop
+    (λ c κs. search needs)
+    loop-holds
+    (λ c κs. search needs)
+    (λ c. search needs)
+    loop-less
+    loop-again
+    same-length
+    returns)
