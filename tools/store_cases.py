@@ -9,12 +9,7 @@ rows are not read). lookup.txt: lines `set start length : words`. A line that be
 import struct
 import sys
 
-
-def vectors(path):
-    for line in open(path):
-        if line.strip() and not line.startswith("#"):
-            head, words = line.split(":")
-            yield [int(n) for n in head.split()], [int(w) for w in words.split()]
+from vectors import vectors
 
 
 def store(*numbers):

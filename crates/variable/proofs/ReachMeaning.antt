@@ -48,6 +48,12 @@ module _ (image : List ℕ) where
       ap (λ (v : Walk). cond (ltb at (length (w .queue))) v w)
       (walk-steps n m (suc at) (walkSet image (getD (w .queue) at 0) w) (set-sane _ w s) (omega arith) (omega arith))
 
+-- ---- reaching goes on
+
+pub reaches-trans : {image : List ℕ} {s t u : ℕ} → Reaches image s t → Reaches image t u → Reaches image s u
+reaches-trans r itself = r
+reaches-trans r (onward q l) = onward (reaches-trans r q) l
+
 -- ---- the tables of a good image are small
 
 pub few-rows : (image : List ℕ) → Good image → (t : ℕ) → t < 9 → {most : ℕ} → mostRows (wordAt image 0) t ≡ most → countAt image t ≤ most

@@ -44,13 +44,14 @@ module _ (image : List ℕ) where
   unfoldable pub reachSet : ℕ → Uses → Uses
   reachSet t = turns (λ k. reachSelection (memberOf image t k)) (setSelections image t .count)
 
-  -- the sets of a queue, and before them the operation's directives
+  -- the sets of a queue
   unfoldable pub reachQueue : List ℕ → Uses → Uses
   reachQueue queue = turns (λ i. reachSet (getD queue i 0)) (length queue)
 
   unfoldable pub noneUsed : Uses
   noneUsed = record { ends = replicate (countAt image values) 0; marks = replicate (countAt image variables) 0 }
 
+  -- the directives of an operation, then the sets that it reaches
   unfoldable pub reachArguments : ℕ → Uses
   reachArguments i = reachQueue (reachedFrom image (record { first = i; count = 1 }) .queue) (reachRange (operationDirectives image i) noneUsed)
 
