@@ -6,25 +6,20 @@ use mathlib.Core.List.{List}
 use native.Mathlib.Decide.{ℕ-discrete}
 use native.Mathlib.Omega.{arith}
 use native.Mathlib.Nat.{le-refl}
-use borrow.Author.Tests.{ne-eqb}
 use Rattle.tables.specs.Layout.{fragments, sets}
 use Rattle.tables.specs.Image.{countAt}
-use Rattle.tables.specs.Columns.{spread, selectionKind, selectionTarget, fragmentSet, setBelow}
+use Rattle.tables.specs.Columns.{spread, selectionKind, selectionTarget, fragmentSet}
 use Rattle.tables.specs.Good.{Good, StandsIn}
 use Rattle.variable.specs.Reach.{Reaches, itself, onward, SpreadsIn, SpreadFrom}
 use Rattle.variable.proofs.ReachMeaning.{stands-row, spread-leads}
 use Rattle.fragment.specs.Chains.{below}
 use Rattle.fragment.specs.Rules.{ownSet}
 use Rattle.fragment.specs.Meaning.{Inside, at-top, deeper, Follows, one, more}
-use Rattle.fragment.proofs.Links.{by-fragment}
+use Rattle.fragment.proofs.Links.{by-fragment, by-own}
 
 pub reaches-trans : {image : List ℕ} {s t u : ℕ} → Reaches image s t → Reaches image t u → Reaches image s u
 reaches-trans p itself = p
 reaches-trans p (onward q l) = onward (reaches-trans p q) l
-
-by-own : (image : List ℕ) (r : ℕ) → (selectionKind image r ≡ spread → ⊥) → below image r ≡ selectionTarget image r
-unfolding setBelow
-by-own image r ne = rw (ne-eqb _ _ ne)
 
 pub inside-reaches : {image : List ℕ} {s t : ℕ} → Inside image s t → Reaches image s t
 inside-reaches at-top = itself

@@ -1,7 +1,7 @@
 -- Where the selections of a good image lead: to a fragment's set, to a later set of their own, or nowhere.
 -- Assumes nothing.
 use Prim.Native.Nat.{ℕ, _+_, _<_, _≤_}
-use mathlib.Core.Path.{_≡_}
+use mathlib.Core.Path.{_≡_, _∙_}
 use mathlib.Core.Bool.{true, false}
 use mathlib.Core.List.{List}
 use native.Mathlib.Decide.{ℕ-discrete}
@@ -26,6 +26,11 @@ pub by-fragment : (image : List ℕ) (r : ℕ) → selectionKind image r ≡ spr
 unfolding setBelow
 by-fragment image r e = rw (eq-eqb _ _ e)
 
+-- any other selection to its own set, or to none
+pub by-own : (image : List ℕ) (r : ℕ) → (selectionKind image r ≡ spread → ⊥) → below image r ≡ selectionTarget image r
+unfolding setBelow
+by-own image r ne = rw (ne-eqb _ _ ne)
+
 module _ {image : List ℕ} (good : Good image) where
   pub fragment-set-in : (f : ℕ) → f < countAt image fragments → fragmentSet image f < countAt image sets
   fragment-set-in f h = good .fragment f h .set
@@ -44,21 +49,21 @@ module _ {image : List ℕ} (good : Good image) where
 
   module _ {s r : ℕ} (st : StandsIn image r s) where
     own : (selectionKind image r ≡ spread → ⊥) → GoodOwned image r → LeadsOn image s r
-    unfolding setBelow isSpread
+    unfolding isSpread
     own ne o =
         let home = good .one-home r s st in
-        let target : below image r ≡ selectionTarget image r = rw (ne-eqb _ _ ne) in
+        let target = by-own image r ne in
         to-own (ne-eqb _ _ ne) (rw target (rw (← home) at (o .later))) (rw target (o .known))
 
     pub leads : LeadsOn image s r
-    unfolding setBelow isSpread
+    unfolding isSpread
     leads =
         let g = good .selection r (stands-row image good r s st) in
         elim (ℕ-discrete (selectionKind image r) spread) [
-          | yes e ↦ to-fragment (eq-eqb _ _ e) (g .spread-target e) (rw (eq-eqb _ _ e))
+          | yes e ↦ to-fragment (eq-eqb _ _ e) (g .spread-target e) (by-fragment image r e)
           | no ne ↦ elim (ℕ-discrete (selectionKind image r) field) [
             | yes f ↦ elim (ℕ-discrete (selectionTarget image r) NONE) [
-              | yes n ↦ nowhere (rw (ne-eqb _ _ ne) n) (ne-eqb _ _ ne)
+              | yes n ↦ nowhere (by-own image r ne ∙ n) (ne-eqb _ _ ne)
               | no m ↦ own ne (g .field-row f .owned m)
             ]
             | no nf ↦ own ne (g .inline-owned (omega (arith, g .kind)))
