@@ -4,5 +4,8 @@ pub mod Sizes
 pub mod Cases
 pub mod ShownKinds
 pub mod OneOperation
+pub mod EachOperation
+pub mod Lending
+pub mod Judges
 pub mod Theorems
 pub mod SpecimensHold

@@ -5,3 +5,4 @@ pub mod Refusing
 pub mod Given
 pub mod Specimens
 pub mod Operation
+pub mod Judging

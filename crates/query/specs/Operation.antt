@@ -5,7 +5,7 @@ use mathlib.Core.List.{List}
 use mathlib.Core.Option.{none}
 use lib.ListN.{length, getD}
 use Rattle.merge_theory.specs.Walk.{check}
-use Rattle.tables.specs.Layout.{selections}
+use Rattle.tables.specs.Layout.{operations, selections}
 use Rattle.tables.specs.Image.{countAt}
 use Rattle.tables.specs.Good.{Good}
 use Rattle.variable.specs.Uses.{usesWords}
@@ -15,7 +15,7 @@ use Rattle.selection.specs.declared.arena.Reply.{Reply}
 use Rattle.selection.specs.Regions.{arenaOf}
 use Rattle.selection.specs.Refining.{replyOf}
 use Rattle.query.specs.Needed.{mostWork}
-use Rattle.query.specs.Reply.{documentOf, ofVariables, orElse}
+use Rattle.query.specs.Reply.{documentOf, ofVariables, orElse, operationsFrom}
 
 module _ (image : List ℕ) (work : ℕ) where
   -- the operation's own answer: kind 0 where it passes, with what is used by then
@@ -24,10 +24,25 @@ module _ (image : List ℕ) (work : ℕ) where
       let walked = replyOf i (check (documentOf image) work used i) in
       orElse (ofVariables i used (usageFault image i)) walked
 
-  -- the words that are lent: first those of the rules on variables, behind them those of the walk, where the parents stand
-  pub record Lent (s : List ℕ) : Type 0 where
+  -- the words that are lent: first those of the rules on variables, behind them those of the walk
+  pub record Ready (s : List ℕ) : Type 0 where
     pub good : Good image
     pub fragments : fragment.fragmentsFault image ≡ none
     pub limit : work ≤ mostWork
     pub room : usesWords image + (arenaOf image .store + work + 1 + countAt image selections) ≤ length s
+
+  -- where the parents stand
+  pub record Lent (s : List ℕ) : Type 0 where
+    pub ready : Ready s
     pub parents : (r : ℕ) → r < countAt image selections → getD s (usesWords image + r) 0 ≡ documentOf image .parentOf r
+
+  -- one operation is checked, and the next may be lent the same words
+  pub record Checked (s s′ : List ℕ) (i used : ℕ) (r : Reply) : Type 0 where
+    pub long : length s′ ≡ length s
+    pub lent : Lent s′
+    pub says : r ≡ operationReply i used
+
+  -- all are
+  pub record CheckedAll (s s′ : List ℕ) (r : Reply) : Type 0 where
+    pub long : length s′ ≡ length s
+    pub says : r ≡ operationsFrom image work (countAt image operations) 0 0

@@ -1,13 +1,13 @@
 -- The laws of comparing a field with those of a segment: what is left decides. Assumes nothing.
 use mathlib.Core.Path.{_≡_, refl, sym, ap, _∙_}
-use mathlib.Core.Bool.{Bool, true, false}
+use mathlib.Core.Bool.{Bool}
 use mathlib.Core.Option.{Option, none, some}
 use mathlib.Core.List.{List, [], _∷_, _++_}
-use Prim.Native.Nat.{ℕ, _+_, _-_, _≤_, _<_}
+use Prim.Native.Nat.{ℕ, _+_, _≤_, _<_}
 use native.Mathlib.Omega.{arith}
 use Rattle.merge_theory.specs.Lists.{filter}
-use Rattle.merge_theory.specs.Document.{Cause, shape, name, arguments, numberOf}
-use Rattle.merge_theory.specs.Walk.{Result, finished, conflict, Step, after, settle, against, compareFirst}
+use Rattle.merge_theory.specs.Document.{Cause}
+use Rattle.merge_theory.specs.Walk.{Step, after, settle, against, compareFirst}
 use Rattle.merge_theory.proofs.Loops.{against-append}
 use Rattle.selection.specs.declared.arena.Arena.{Arena}
 use Rattle.selection.specs.declared.arena.Walk as states
@@ -16,7 +16,7 @@ use Rattle.selection.specs.declared.groups.Segment.{Segment}
 use Rattle.selection.specs.declared.groups.Part.{Part}
 use Rattle.selection.specs.Places.{rowIn, onward}
 use Rattle.selection.specs.Grouping.{member, memberPlace, partRows, Grounded, PartAt}
-use Rattle.selection.specs.Refining.{document, passOf, replyOf, Holds, Tells}
+use Rattle.selection.specs.Refining.{document, passOf, Holds, Tells}
 use Rattle.selection.specs.Comparing.{kindOfClash, conflicted, ComparesSegment, ComparesPart}
 use Rattle.selection.proofs.PlaceLaws.{seek-ge, Found, filter-here}
 use Rattle.selection.proofs.PartLaws.{member-found}
@@ -87,12 +87,16 @@ module _ {image s : List ℕ} {arena : Arena} {g : Segment} {isShape : Bool} {a 
         → (kind ≡ 0 → ⊥) → ComparesSegment image s arena z x g isShape a from (conflicted kind a b z)
     comparing-clash z x {kind} is k stop = record {
       same = λ e. absurd (stop e);
+      known = refl;
+      operation = refl;
       tells = λ l G low ls used h. rw (turn x l is G low ls used) (settled s (arena .store) z kind a b (passOf image isShape .clash a b) _ k stop ls used h);
     }
 
   pub comparing-done : {place : ℕ} → Comparing image s arena g isShape a from end place → end ≤ place → (z : states.Walk) (x : places.List) → x .end ≡ end → ComparesSegment image s arena z x g isShape a from z
   comparing-done c over z x is = record {
     same = λ _. refl;
+    known = refl;
+    operation = refl;
     tells = λ l G low ls used h. let u = c .upto x l is G low in rw (u .same ls used, u .found .over (omega arith)) (nothing-left s (arena .store) z (passOf image isShape .clash) a ls used h);
   }
 
@@ -121,6 +125,8 @@ module _ {image s : List ℕ} {arena : Arena} {z z₁ : states.Walk} {part : Par
   pub part-clash : (z₁ .reply .kind ≡ 0 → ⊥) → ComparesPart image s arena z part isShape z₁
   part-clash stop = record {
     same = λ e. absurd (stop e);
+    known = front .known;
+    operation = front .operation;
     tells = λ l rows G p ls used h.
         rw (in-order l rows G p ls used) (tells-stop s (arena .store) (z .reply .operation) z₁ _ _ (front .tells l G (omega (arith, p .from)) ls used h) stop);
   }
@@ -131,6 +137,8 @@ module _ {image s : List ℕ} {arena : Arena} {z z₁ : states.Walk} {part : Par
       let back′ : ComparesSegment image s arena z (part .list) (part .back) isShape a (part .next) z₂ = rw is at back in
       record {
         same = back′ .same;
+        known = back′ .known;
+        operation = back′ .operation;
         tells = λ l rows G p ls used h.
             rw (in-order l rows G p ls used)
             (tells-go s s (arena .store) (z .reply .operation) z z₂ _ _ (rw is at (front .tells l G (omega (arith, p .from)) ls used h)) (rw is at go)

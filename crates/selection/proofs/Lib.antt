@@ -14,6 +14,14 @@
 --     MeetLaws      merged sets expanded and met
 --     CompareLaws   a field against those of a segment
 --     QueueingLaws  the sets of a part are queued
+--     BelowLaws     the sets below a part
+--     PartMeets     one part compared, and its sets met
+--     PassLaws      a pass over the parts of a list
+--     LoopLaws      the loop of a pass, its turns and its ends
+--     ShapeLaws     the loop of the shape pass
+--     ParentLaws    the loop of the parent pass
+--     OperationLaws the check of an operation
+--     ValidateLaws  its reply is the merge theory's
 pub mod ParentsLaws
 pub mod OnceLaws
 pub mod DocumentLaws
@@ -29,3 +37,11 @@ pub mod RefineLaws
 pub mod MeetLaws
 pub mod CompareLaws
 pub mod QueueingLaws
+pub mod BelowLaws
+pub mod PartMeets
+pub mod PassLaws
+pub mod LoopLaws
+pub mod ShapeLaws
+pub mod ParentLaws
+pub mod OperationLaws
+pub mod ValidateLaws

@@ -1,36 +1,31 @@
 -- Merged sets that are expanded and met: what that does, and that the merge theory's walk does the same. Assumes nothing.
-use mathlib.Core.Path.{_≡_, refl, sym, ap, _∙_}
-use mathlib.Core.Bool.{Bool, true, false, cond, false≢true}
-use mathlib.Core.Logic.{inl, inr}
+use mathlib.Core.Path.{_≡_, refl, ap, _∙_}
+use mathlib.Core.Bool.{Bool, true, false, false≢true}
 use mathlib.Core.List.{List, [], _∷_, _++_}
-use Prim.Native.Nat.{ℕ, zero, suc, _+_, _-_, _≤_, _<_}
+use Prim.Native.Nat.{ℕ, zero, suc, _+_, _≤_}
 use native.Mathlib.Omega.{arith}
 use lib.Dec.{leb}
-use lib.ListN.{length, getD, set, length-set}
+use lib.ListN.{length, getD, length-set}
 use lib.Seq.{getD-set-other}
 use borrow.Author.Tests.{leb-true}
-use Rattle.lists.specs.Part.{Stores}
-use Rattle.lists.proofs.Parts.{stores-length, stores-kept, set-outside}
-use Rattle.merge_theory.specs.Lists.{Every, isKnown, flatMap}
-use Rattle.merge_theory.specs.Document.{Document, Sound}
+use Rattle.merge_theory.specs.Lists.{flatMap}
 use Rattle.merge_theory.specs.Expand.{expand, fieldsOf}
-use Rattle.merge_theory.specs.Walk.{Result, finished, deep, Step, Pass, walk, meet, walkParts}
+use Rattle.merge_theory.specs.Walk.{Pass, walk}
 use Rattle.merge_theory.proofs.Theorems.{expand-queue}
 use Rattle.merge_theory.proofs.ExpandLaws.{expand-at}
-use Rattle.tables.specs.Layout.{fragments, sets, selections}
-use Rattle.tables.specs.Image.{countAt}
+use Rattle.tables.specs.Layout.{selections}
 use Rattle.selection.specs.declared.arena.Arena.{Arena}
 use Rattle.selection.specs.declared.arena.Walk as states
 use Rattle.selection.specs.declared.arena.List as places
 use Rattle.selection.specs.declared.expand.Expansion.{Expansion}
 use Rattle.selection.specs.declared.walk.Met.{Met}
-use Rattle.selection.specs.Expanding.{Expandable, Expanded, Framed, Listed}
-use Rattle.selection.specs.KnownLists.{Known, AtHand}
-use Rattle.selection.specs.Refining.{document, Holds, Tells, charged, lengthOf, MeetsList, Ample, Begun, Hand, Site, Rows, Kept, Refines, walkList, Entered, Meets, Queued, MeetsSets}
+use Rattle.selection.specs.Expanding.{Expanded, Listed}
+use Rattle.selection.specs.KnownLists.{AtHand}
+use Rattle.selection.specs.Refining.{document, Holds, Tells, charged, lengthOf, MeetsList, Ample, Begun, Site, Kept, walkList, Meets, Queued, MeetsSets}
 use Rattle.selection.proofs.ParentsLaws.{few-rows}
 use Rattle.selection.proofs.StepLaws.{Places, places}
 use Rattle.selection.proofs.ExpandedLaws.{listed-expand, stores-same}
-use Rattle.selection.proofs.RefineLaws.{MetCase, again, refused, stored, met-case, met-done, met-entered, kept-trans}
+use Rattle.selection.proofs.RefineLaws.{MetCase, again, refused, stored, met-case, met-done, met-entered}
 
 -- ---- whatever the image is
 
@@ -38,6 +33,7 @@ use Rattle.selection.proofs.RefineLaws.{MetCase, again, refused, stored
 pub record Charges (work cost : ℕ) (z z′ : states.Walk) : Type 0 where
   pub known : z′ .known ≡ z .known
   pub expansions : z′ .expansions ≡ z .expansions
+  pub operation : z′ .reply .operation ≡ z .reply .operation
   pub fits : z′ .reply .kind ≡ 0 → z .reply .used + cost ≤ work
   pub units : z′ .reply .kind ≡ 0 → z′ .reply .used ≡ z .reply .used + cost
 
@@ -46,8 +42,8 @@ unfolding charged
 charges work cost z = go (leb (z .reply .used + cost) work) refl
   where
     go : (b : Bool) → leb (z .reply .used + cost) work ≡ b → Charges work cost z (charged work cost z)
-    go true e = rw e (record { known = refl; expansions = refl; fits = λ _. leb-true _ _ e; units = λ _. refl })
-    go false e = rw e (record { known = refl; expansions = refl; fits = λ k. absurd (omega arith); units = λ k. absurd (omega arith) })
+    go true e = rw e (record { known = refl; expansions = refl; operation = refl; fits = λ _. leb-true _ _ e; units = λ _. refl })
+    go false e = rw e (record { known = refl; expansions = refl; operation = refl; fits = λ k. absurd (omega arith); units = λ k. absurd (omega arith) })
 
 pub ample-met : {s s′ : List ℕ} {store work : ℕ} {z : states.Walk} {x : places.List} {r : Met} → MeetsList s s′ store work z x r → Ample work 1 z
     → x .start ≤ z .known + 1 → r .walk .reply .kind ≡ 0 → Ample work 0 (r .walk)
@@ -86,6 +82,7 @@ record After (s s′ : List ℕ) (store work : ℕ) (z : states.Walk) (x : place
   pub words : (k : ℕ) → (k ≡ store + z .known → ⊥) → getD s′ k 0 ≡ getD s k 0
   pub list : r .list ≡ x
   pub expansions : r .walk .expansions ≡ z .expansions
+  pub operation : r .walk .reply .operation ≡ z .reply .operation
   pub grows : z .known ≤ x .end → z .known ≤ r .walk .known
   pub within : r .walk .reply .kind ≡ 0 → r .walk .reply .used ≤ work
   pub end : r .deeper ≡ true → r .walk .known ≡ x .end
@@ -100,6 +97,7 @@ after-met {s} {s′} {store} {work} {z} {x} {r} m = go (met-case m)
       words = λ k _. refl;
       list = refl;
       expansions = paid .expansions;
+      operation = paid .operation;
       grows = λ _. omega (arith, paid .known);
       within = λ at-0. omega (arith, paid .fits at-0, paid .units at-0);
       end = λ e. absurd (false≢true e);
@@ -110,6 +108,7 @@ after-met {s} {s′} {store} {work} {z} {x} {r} m = go (met-case m)
       words = λ k _. refl;
       list = refl;
       expansions = paid .expansions;
+      operation = paid .operation;
       grows = λ _. omega (arith, paid .known);
       within = λ at-0. omega (arith, paid .fits at-0, paid .units at-0);
       end = λ e. absurd (false≢true e);
@@ -120,6 +119,7 @@ after-met {s} {s′} {store} {work} {z} {x} {r} m = go (met-case m)
       words = λ k ne. getD-set-other s (store + z .known) k (lengthOf x) 0 ne;
       list = refl;
       expansions = paid .expansions;
+      operation = paid .operation;
       grows = λ h. h;
       within = λ at-0. omega (arith, paid .fits at-0, paid .units at-0);
       end = λ _. refl;
@@ -210,9 +210,9 @@ module _ {image : List ℕ} {arena : Arena} {work : ℕ} {s s₁ s′ : List ℕ
   entered-same deeper P (suc levels) ls used h =
       met-entered (z .reply .operation) met l list₁ ls used (holds₁ ls used h) deeper (begun .listed) (listed .grows) .2 (document image) P (walk (document image) P work levels)
 
-  pub sets-met : Meets image arena work (z .reply .operation) (λ P levels. walk (document image) P work levels starts) s s′ z m
-  sets-met = record {
-    done = λ flat P levels. record { tells = λ ls used h. flat-tells flat P levels ls used h; site = site′; kept = kept };
+  pub sets-met : (P : Pass) → Meets image arena work (z .reply .operation) P (λ levels. walk (document image) P work levels starts) s s′ z m
+  sets-met P = record {
+    done = λ flat levels. record { tells = λ ls used h. flat-tells flat P levels ls used h; site = site′; kept = kept };
     entered = λ deeper. record {
       list = l;
       stands = rw (left .list) (record { rows = stores-same (left .long) (λ k ge less. left .words k (λ e. omega (arith, begun .listed))) (list₁ .rows) });
@@ -226,7 +226,7 @@ module _ {image : List ℕ} {arena : Arena} {work : ℕ} {s s₁ s′ : List ℕ
       site = site′ (left .going deeper);
       kept = kept;
       goes = λ ls used h. met-entered (z .reply .operation) met l list₁ ls used (holds₁ ls used h) deeper (begun .listed) (listed .grows) .0;
-      same = entered-same deeper;
+      same = entered-same deeper P;
     };
   }
 
@@ -235,6 +235,8 @@ pub meets-sets : {image : List ℕ} {arena : Arena} {work : ℕ} {s s₁ s′ : 
     → MeetsList s₁ s′ (arena .store) work (record { reply = z .reply; known = z .known; expansions = x .number }) (record { start = x .listed; end = end }) m
     → MeetsSets image arena work s s′ z x m
 meets-sets {work = work} {z = z} {x = x} ample begun expanded met = record {
+  operation = after-met met .operation;
+  going = after-met met .going;
   ample = ample-met met (record {
     going = ample .going;
     paid = ample .paid;
@@ -243,5 +245,5 @@ meets-sets {work = work} {z = z} {x = x} ample begun expanded met = record {
     countable = omega (arith, ample .countable, begun .number);
     budget = ample .budget;
   }) (omega (arith, begun .listed));
-  meets = λ starts site queued. sets-met ample begun expanded met starts site queued;
+  meets = λ P starts site queued. sets-met ample begun expanded met starts site queued P;
 }

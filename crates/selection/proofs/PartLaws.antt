@@ -3,28 +3,26 @@
 use mathlib.Core.Path.{_≡_, refl, sym, ap, _∙_}
 use mathlib.Core.Logic.{_⊎_, inl, inr, ⊎-elim}
 use mathlib.Core.Bool.{Bool, true, false, cond, not, _&&_, and-false, false≢true, _||_}
-use mathlib.Core.List.{List, [], _∷_, _++_, append-nil, append-assoc, map}
+use mathlib.Core.List.{List, [], _∷_, _++_, append-nil, map}
 use Prim.Native.Nat.{ℕ, suc, _+_, _-_, _≤_, _<_}
 use native.Mathlib.Decide.{ℕ-discrete}
 use native.Mathlib.Omega.{arith}
-use lib.Dec.{eqb, ltb}
+use lib.Dec.{eqb}
 use lib.ListN.{length, take, drop, getD, take-append-drop}
-use borrow.Author.Tests.{not-true, eq-eqb, ne-eqb, eqb-true, eqb-false, lt-ltb, le-ltb}
+use borrow.Author.Tests.{not-true, eq-eqb, ne-eqb, eqb-true, lt-ltb, le-ltb}
 use Rattle.lists.proofs.Parts.{le-or-lt}
 use Rattle.lists.proofs.Tests.{both, first-of, second-of}
 use Rattle.merge_theory.specs.Lists.{flatMap, filter, keep, isIn}
 use Rattle.merge_theory.specs.Document.{Document}
 use Rattle.merge_theory.specs.Groups.{fieldsWith, keysOf, groups, concretes, abstracts, subgroupsBy, subgroups}
 use Rattle.merge_theory.proofs.Loops.{filter-append}
-use Rattle.tables.specs.Columns.{objectType, typeKind, responseName}
 use Rattle.selection.specs.declared.arena.List as places
 use Rattle.selection.specs.declared.groups.Segment.{Segment}
 use Rattle.selection.specs.declared.groups.Cursor.{Cursor}
-use Rattle.selection.specs.declared.groups.Part.{Part}
 use Rattle.selection.specs.KnownLists.{AtHand}
-use Rattle.selection.specs.Places.{seek, rowIn, before, onward, appears, freshKeys, freshFrom}
+use Rattle.selection.specs.Places.{seek, rowIn, before, onward, appears, freshFrom}
 use Rattle.selection.specs.Grouping.{ofKind, member, segment, everyParent, oneParent, abstractParent, hasObjectParent, belongs, memberPlace, nameAt, parentAt, isFirstOfName, opensSubgroup, groupPlace, subgroupPlace, firstSubgroup, laterSubgroup, nextSubgroup, groupPart, subgroupPart, partRows, Grounded, PartAt}
-use Rattle.selection.proofs.PlaceLaws.{row-is, eqb-sym, none-seen, fresh-rest, seek-ge, seek-skips, seek-passes, Found, found, filter-here, filter-skip, filter-cong, filter-filter, onward-start, onward-over, before-start, appears-by, fresh-all, fresh-here, fresh-skip, fresh-over}
+use Rattle.selection.proofs.PlaceLaws.{row-is, eqb-sym, none-seen, fresh-rest, seek-ge, seek-skips, seek-passes, Found, found, filter-skip, filter-cong, filter-filter, onward-start, onward-over, before-start, appears-by, fresh-all, fresh-here, fresh-skip, fresh-over}
 
 -- what a search for the first appearance of a key found
 pub record FoundKey (key : ℕ → ℕ) (among : ℕ → Bool) (x : places.List) (l : List ℕ) (from q row : ℕ) : Type 0 where
@@ -469,11 +467,11 @@ module _ {D : Document} {image s : List ℕ} {store : ℕ} {x : places.List} {l 
 
       go : (b : Bool) → D .isObject (D .parentOf (fieldAt x l (c .first))) ≡ b → Along D x l (nextSubgroup image s store x c) (subgroupsAfter D x l c)
       go true object = rw (object, object-here c here ∙ object) (⊎-elim
-        (λ past. rw (le-ltb p (x .end) past, fk .over past) next-group)
-        (λ near. rw (lt-ltb p (x .end) near)
-        (let two = found-subgroup (c .group) (c .first + 1) p (here .from) (omega (arith, here .ahead, fk .ahead)) near (here .group) fk in
-        record { over = λ past. absurd (omega (arith, below)); here = λ _. two .0; next = λ _. two .1 }))
-        (le-or-lt (x .end) p))
+          (λ past. rw (le-ltb p (x .end) past, fk .over past) next-group)
+          (λ near. rw (lt-ltb p (x .end) near)
+          (let two = found-subgroup (c .group) (c .first + 1) p (here .from) (omega (arith, here .ahead, fk .ahead)) near (here .group) fk in
+          record { over = λ past. absurd (omega (arith, below)); here = λ _. two .0; next = λ _. two .1 }))
+          (le-or-lt (x .end) p))
       go false object = rw (object, object-here c here ∙ object, le-ltb (x .end) (x .end) (omega arith)) next-group
 
 -- ---- the parts of a list, from the beginning

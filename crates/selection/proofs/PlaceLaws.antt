@@ -1,18 +1,16 @@
 -- The laws of places: what a search for a place found, and what that says of the list that stands there. Assumes nothing.
 use mathlib.Core.Path.{_≡_, refl, sym, ap, _∙_}
-use mathlib.Core.Bool.{Bool, true, false, not, _&&_, _||_, false≢true}
+use mathlib.Core.Bool.{Bool, true, false, not, _&&_, _||_}
 use mathlib.Core.List.{List, [], _∷_, _++_, append-nil, map}
 use Prim.Native.Nat.{ℕ, zero, suc, _+_, _-_, _≤_, _<_}
 use native.Mathlib.Nat.{add-zero}
 use native.Mathlib.Decide.{ℕ-discrete}
-use native.Mathlib.Numerals.{add-one}
 use native.Mathlib.Omega.{arith}
 use lib.Dec.{eqb}
-use lib.ListN.{length, take, drop, getD, drop-of-length-le}
-use lib.Seq.{drop-cons, take-suc, take-all}
-use borrow.Author.Tests.{eq-eqb, ne-eqb, eqb-true, eqb-false}
+use lib.ListN.{length, getD, drop-of-length-le}
+use lib.Seq.{drop-cons, take-suc}
+use borrow.Author.Tests.{eq-eqb, ne-eqb}
 use Rattle.lists.specs.Every.{position}
-use Rattle.lists.specs.Part.{Stores}
 use Rattle.lists.proofs.EveryLaws.{position-found, position-none, position-le, position-passes, before-position}
 use Rattle.lists.proofs.Parts.{stores-length, stores-getD}
 use Rattle.merge_theory.specs.Lists.{keep, filter, isIn, distinct}

@@ -2,22 +2,21 @@
 use mathlib.Core.Path.{_≡_, refl, sym, ap, _∙_}
 use mathlib.Core.Bool.{Bool, true, false, cond, not, _&&_}
 use mathlib.Core.Option.{none, some}
-use mathlib.Core.Logic.{inl, inr}
+use mathlib.Core.Logic.{inr}
 use mathlib.Core.List.{List, [], _∷_, _++_, append-nil, append-assoc}
 use Prim.Native.Nat.{ℕ, zero, suc, _+_, _-_, _≤_, _<_}
 use native.Mathlib.Omega.{arith}
 use lib.Dec.{T, eqb, ltb}
 use lib.ListN.{length, getD, length-append}
-use borrow.Author.Tests.{eq-eqb, ne-eqb, eqb-true}
+use borrow.Author.Tests.{ne-eqb, eqb-true}
 use Rattle.lists.specs.Part.{Stores, Outside}
 use Rattle.lists.proofs.Parts.{outside-none, outside-trans, outside-wider, stores-kept, stores-length}
-use Rattle.merge_theory.specs.Lists.{_∈_, here, there, Every, flatMap, filter, keep}
+use Rattle.merge_theory.specs.Lists.{_∈_, here, there, flatMap, filter, keep}
 use Rattle.merge_theory.specs.Document.{Document, isField, listed, setOf, FieldAt, field-at}
 use Rattle.merge_theory.specs.Document as kinds
 use Rattle.merge_theory.specs.Walk.{hasRows, setsBelow}
 use Rattle.merge_theory.proofs.Loops.{filter-append, flatMap-append}
-use Rattle.tables.specs.Layout.{NONE, selections}
-use Rattle.tables.specs.Image.{countAt}
+use Rattle.tables.specs.Layout.{NONE}
 use Rattle.tables.specs.Columns.{field, selectionKind, selectionTarget, setSelections, setBelow}
 use Rattle.selection.specs.declared.arena.Arena.{Arena}
 use Rattle.selection.specs.declared.arena.Walk as states
@@ -29,13 +28,13 @@ use Rattle.selection.specs.ImageDocument.{documentBy, kindFrom, linkFrom
 use Rattle.selection.specs.KnownLists.{AtHand}
 use Rattle.selection.specs.Places.{rowIn, onward}
 use Rattle.selection.specs.Expanding.{queueNext, queueWords}
-use Rattle.selection.specs.Grouping.{member, memberPlace, partRows, Grounded, PartAt}
-use Rattle.selection.specs.Refining.{document, Site, Rows, Hand}
-use Rattle.selection.specs.Comparing.{hasSet, fieldNext, fieldWords, Queues, CanQueue, QueuesSegment, QueuesPart}
+use Rattle.selection.specs.Grouping.{member, memberPlace, partRows, Grounded}
+use Rattle.selection.specs.Refining.{document, Site, Rows}
+use Rattle.selection.specs.Comparing.{hasSet, fieldNext, fieldWords, CanQueue, QueuesSegment, QueuesPart}
 use Rattle.selection.proofs.PlaceLaws.{Found, row-is}
 use Rattle.selection.proofs.PartLaws.{member-found}
-use Rattle.selection.proofs.StepLaws.{Places, places, length-queue}
-use Rattle.selection.proofs.ExpandedLaws.{queue-next, queue-words, queue-stores, queue-outside}
+use Rattle.selection.proofs.StepLaws.{places, length-queue}
+use Rattle.selection.proofs.ExpandedLaws.{queue-next, queue-stores, queue-outside}
 
 -- ---- a list that stands in the words
 
@@ -150,7 +149,7 @@ pub record Queueing (image : List ℕ) (arena : Arena) (s₀ s : List ℕ) (e₀
 stores-at : {s s′ : List ℕ} {at n n′ : ℕ} {ws : List ℕ} → s′ ≡ s → n′ ≡ n → Stores s at n ws → Stores s′ at n′ ws
 stores-at e f r = rw (e, f) r
 
-next-listed : (arena : Arena) (x : Expansion) → (queueNext arena x .listed ≡ x .listed) × (queueNext arena x .number ≡ x .number)
+pub next-listed : (arena : Arena) (x : Expansion) → (queueNext arena x .listed ≡ x .listed) × (queueNext arena x .number ≡ x .number)
 unfolding queueNext
 next-listed arena x = go (ltb (arena .queue + x .queued) (arena .store))
   where

@@ -2,14 +2,13 @@
 use mathlib.Core.Path.{_≡_, refl, sym, ap, _∙_}
 use mathlib.Core.Bool.{Bool, true, false, cond, false≢true}
 use mathlib.Core.List.{List, [], _∷_, _++_}
-use Prim.Native.Nat.{ℕ, zero, suc, _+_, _-_, _≤_, _<_}
+use Prim.Native.Nat.{ℕ, suc, _+_, _≤_}
 use native.Mathlib.Omega.{arith}
 use lib.Dec.{leb, eqb}
-use lib.ListN.{length, getD, set, length-set}
-use lib.Seq.{getD-set-other}
+use lib.ListN.{length, set}
 use borrow.Author.Tests.{leb-true, eqb-true, eqb-false}
-use Rattle.lists.specs.Part.{Stores, Outside}
-use Rattle.lists.proofs.Parts.{stores-length, set-outside, stores-kept}
+use Rattle.lists.specs.Part.{Stores}
+use Rattle.lists.proofs.Parts.{stores-length}
 use Rattle.merge_theory.specs.Lists.{isKnown}
 use Rattle.merge_theory.specs.Document.{Document, Cause, shape, name, arguments, numberOf}
 use Rattle.merge_theory.specs.Walk.{Result, finished, conflict, out, deep, Step, after, _then_, Pass, chargeIf, charge, costOf, note, enter, meet, walkParts}
@@ -18,7 +17,7 @@ use Rattle.selection.specs.declared.arena.Walk as states
 use Rattle.selection.specs.declared.arena.List as places
 use Rattle.selection.specs.declared.walk.Met.{Met}
 use Rattle.selection.specs.KnownLists.{Known, AtHand}
-use Rattle.selection.specs.Refining.{replyOf, Holds, Tells, charged, lengthOf, entered, metList, metWords, MeetsList, Site, Kept, Refines}
+use Rattle.selection.specs.Refining.{Holds, Tells, charged, lengthOf, entered, metList, metWords, MeetsList, Site, Kept, Refines}
 use Rattle.selection.proofs.KnownLaws.{known-more}
 
 pub some-kind : (c : Cause) → numberOf c ≡ 0 → ⊥

@@ -40,6 +40,8 @@ conflicted kind a b z = record {
 -- a field against those of a segment from a place on
 pub record ComparesSegment (image s : List ℕ) (arena : Arena) (z : states.Walk) (x : places.List) (g : Segment) (isShape : Bool) (a from : ℕ) (r : states.Walk) : Type 0 where
   pub same : r .reply .kind ≡ 0 → r ≡ z
+  pub known : r .known ≡ z .known
+  pub operation : r .reply .operation ≡ z .reply .operation
   pub tells : (l : List ℕ) → Grounded (document image) image s (arena .store) x l → x .start ≤ from
       → (ls : List (List ℕ)) (used : ℕ) → Holds s (arena .store) (z .reply .operation) z ls used
       → Tells s (arena .store) (z .reply .operation) r (against (passOf image isShape .clash) a (filter (member (document image) g) (onward x l from)) ls used)
@@ -47,6 +49,8 @@ pub record ComparesSegment (image s : List ℕ) (arena : Arena) (z : states.Walk
 -- the first field of a part against each other
 pub record ComparesPart (image s : List ℕ) (arena : Arena) (z : states.Walk) (part : Part) (isShape : Bool) (r : states.Walk) : Type 0 where
   pub same : r .reply .kind ≡ 0 → r ≡ z
+  pub known : r .known ≡ z .known
+  pub operation : r .reply .operation ≡ z .reply .operation
   pub tells : (l rows : List ℕ) → Grounded (document image) image s (arena .store) (part .list) l → PartAt (document image) s (arena .store) l part rows
       → (ls : List (List ℕ)) (used : ℕ) → Holds s (arena .store) (z .reply .operation) z ls used
       → Tells s (arena .store) (z .reply .operation) r (compareFirst (passOf image isShape .clash) rows ls used)

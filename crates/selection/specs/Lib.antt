@@ -9,3 +9,4 @@ pub mod Places
 pub mod Grouping
 pub mod Refining
 pub mod Comparing
+pub mod Validating

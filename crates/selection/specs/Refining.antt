@@ -13,8 +13,8 @@ use Prim.Native.Nat.{ℕ, zero, suc, _+_, _-_, _≤_, _<_}
 use lib.Dec.{eqb, leb}
 use lib.ListN.{length, getD, set}
 use Rattle.lists.specs.Part.{Stores}
-use Rattle.merge_theory.specs.Lists.{_∈_, Every, flatMap, isKnown}
-use Rattle.merge_theory.specs.Document.{Document, Cause, numberOf, FieldAt, Sound}
+use Rattle.merge_theory.specs.Lists.{Every}
+use Rattle.merge_theory.specs.Document.{Document, numberOf, FieldAt, Sound}
 use Rattle.merge_theory.specs.Rule.{Reached}
 use Rattle.merge_theory.specs.Walk.{Result, finished, conflict, out, deep, Step, _then_, Pass, shapePass, parentPass, compareFirst, descend, setsBelow, walkParts, walk}
 use Rattle.tables.specs.Layout.{selections}
@@ -28,10 +28,12 @@ use Rattle.selection.specs.declared.arena.Walk as states
 use Rattle.selection.specs.declared.arena.List as places
 use Rattle.selection.specs.declared.expand.Expansion.{Expansion}
 use Rattle.selection.specs.declared.walk.Met.{Met}
+use Rattle.selection.specs.declared.groups.Part.{Part}
 use Rattle.selection.specs.ImageDocument.{documentBy}
 use Rattle.selection.specs.Regions.{arenaOf}
 use Rattle.selection.specs.Expanding.{MarksBelow, Once, StartSet}
 use Rattle.selection.specs.KnownLists.{Known, AtHand, Decides}
+use Rattle.selection.specs.Grouping.{PartAt}
 
 abbrev pub document : List ℕ → Document
 document image = documentBy (sameShape image) (sameArguments image) image
@@ -166,7 +168,7 @@ module _ (image : List ℕ) (arena : Arena) (work op : ℕ) where
   onePart P levels rows = compareFirst (P .clash) rows then lower P levels (setsBelow (document image) rows)
 
   -- a list that was entered: it stands in the store, and the step goes on as its walk
-  pub record Entered (step : Pass → ℕ → Step) (s s′ : List ℕ) (z : states.Walk) (m : Met) : Type 0 where
+  pub record Entered (P : Pass) (step : ℕ → Step) (s s′ : List ℕ) (z : states.Walk) (m : Met) : Type 0 where
     pub list : List ℕ
     pub stands : AtHand s′ (arena .store) (m .list) list
     pub ordered : m .list .start ≤ m .list .end
@@ -176,13 +178,13 @@ module _ (image : List ℕ) (arena : Arena) (work op : ℕ) where
     pub kept : Kept s s′ z (m .walk)
     pub goes : (ls : List (List ℕ)) (used : ℕ) → Holds s (arena .store) op z ls used
         → Holds s′ (arena .store) op (m .walk) (ls ++ list ∷ []) (used + suc (length list))
-    pub same : (P : Pass) (levels : ℕ) (ls : List (List ℕ)) (used : ℕ) → Holds s (arena .store) op z ls used
-        → step P levels ls used ≡ walkList P levels list (ls ++ list ∷ []) (used + suc (length list))
+    pub same : (levels : ℕ) (ls : List (List ℕ)) (used : ℕ) → Holds s (arena .store) op z ls used
+        → step levels ls used ≡ walkList P levels list (ls ++ list ∷ []) (used + suc (length list))
 
   -- what has been met: the step is done, or a list was entered
-  pub record Meets (step : Pass → ℕ → Step) (s s′ : List ℕ) (z : states.Walk) (m : Met) : Type 0 where
-    pub done : m .deeper ≡ false → (P : Pass) (levels : ℕ) → Refines (step P levels) s s′ z (m .walk)
-    pub entered : m .deeper ≡ true → Entered step s s′ z m
+  pub record Meets (P : Pass) (step : ℕ → Step) (s s′ : List ℕ) (z : states.Walk) (m : Met) : Type 0 where
+    pub done : m .deeper ≡ false → (levels : ℕ) → Refines (step levels) s s′ z (m .walk)
+    pub entered : m .deeper ≡ true → Entered P step s s′ z m
 
   -- sets that stand in the queue: what may be merged
   pub record Queued (s : List ℕ) (x : Expansion) (sets : List ℕ) : Type 0 where
@@ -193,6 +195,26 @@ module _ (image : List ℕ) (arena : Arena) (work op : ℕ) where
 
 -- merged sets are expanded, and their list is met
 pub record MeetsSets (image : List ℕ) (arena : Arena) (work : ℕ) (s s′ : List ℕ) (z : states.Walk) (x : Expansion) (m : Met) : Type 0 where
+  pub operation : m .walk .reply .operation ≡ z .reply .operation
+  pub going : m .deeper ≡ true → m .walk .reply .kind ≡ 0
   pub ample : m .walk .reply .kind ≡ 0 → Ample work 0 (m .walk)
-  pub meets : (sets : List ℕ) → Site image arena work (z .reply .operation) s z → Queued image arena work (z .reply .operation) s x sets
-      → Meets image arena work (z .reply .operation) (λ P levels. walk (document image) P work levels sets) s s′ z m
+  pub meets : (P : Pass) (sets : List ℕ) → Site image arena work (z .reply .operation) s z → Queued image arena work (z .reply .operation) s x sets
+      → Meets image arena work (z .reply .operation) P (λ levels. walk (document image) P work levels sets) s s′ z m
+
+-- one part: compared, and its sets met
+pub record MeetsPart (image : List ℕ) (arena : Arena) (work : ℕ) (s s′ : List ℕ) (z : states.Walk) (part : Part) (isShape : Bool) (m : Met) : Type 0 where
+  pub operation : m .walk .reply .operation ≡ z .reply .operation
+  pub going : m .deeper ≡ true → m .walk .reply .kind ≡ 0
+  pub ample : m .walk .reply .kind ≡ 0 → Ample work 0 (m .walk)
+  pub meets : (l rows : List ℕ) → Site image arena work (z .reply .operation) s z → AtHand s (arena .store) (part .list) l → part .list .start ≤ part .list .end
+      → Rows image arena work (z .reply .operation) l → PartAt (document image) s (arena .store) l part rows → Rows image arena work (z .reply .operation) rows
+      → Meets image arena work (z .reply .operation) (passOf image isShape) (λ levels. onePart image arena work (z .reply .operation) (passOf image isShape) levels rows) s s′ z m
+
+-- the walk of a list
+pub record WalksList (image : List ℕ) (arena : Arena) (work : ℕ) (s s′ : List ℕ) (z : states.Walk) (x : places.List) (isShape : Bool) (levels : ℕ) (z′ : states.Walk) : Type 0 where
+  pub long : length s′ ≡ length s
+  pub operation : z′ .reply .operation ≡ z .reply .operation
+  pub ample : z′ .reply .kind ≡ 0 → Ample work 0 z′
+  pub walks : (l : List ℕ) → Site image arena work (z .reply .operation) s z → AtHand s (arena .store) x l → x .start ≤ x .end → x .end ≤ z .known
+      → Rows image arena work (z .reply .operation) l
+      → Refines image arena work (z .reply .operation) (walkList image arena work (z .reply .operation) (passOf image isShape) levels l) s s′ z z′

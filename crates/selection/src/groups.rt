@@ -71,11 +71,22 @@ fn is_member(image: &[u32], s: &[u32], segment: Segment, row: u32) -> bool
     if segment.kind == ONE_PARENT {
         return parent_of(s, row) == segment.parent;
     }
-    if has_object_parent(image, s, row) { false } else { true }
+    if has_object_parent(image, s, row) {
+        false
+    } else {
+        true
+    }
 }
 
 // The first place from one place on, and below another, that has a field of the segment.
-pub fn find_member(image: &[u32], s: &[u32], arena: Arena, segment: Segment, from: u32, end: u32) -> u32
+pub fn find_member(
+    image: &[u32],
+    s: &[u32],
+    arena: Arena,
+    segment: Segment,
+    from: u32,
+    end: u32,
+) -> u32
     ensures { λ r. ⌜ r ≡ memberPlace (now (image .entry)) (now (s .entry)) (arena .store) segment from end ⌝ }
 {
     let mut place = from;
@@ -188,7 +199,13 @@ pub fn next_subgroup(image: &[u32], s: &[u32], arena: Arena, list: List, cursor:
     if first < list.end {
         return Cursor { group, first };
     }
-    first_subgroup(image, s, arena, list, find_group(image, s, arena, list, group + 1))
+    first_subgroup(
+        image,
+        s,
+        arena,
+        list,
+        find_group(image, s, arena, list, group + 1),
+    )
 }
 
 // A name group as a part: all fields of its name, from the first one on.

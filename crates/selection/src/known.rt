@@ -14,7 +14,11 @@ ghost use Rattle.selection.specs.KnownLists.{Decides, sameRows, isListAt
 pub fn list_length(list: List) -> u32
     ensures { λ r. ⌜ r ≡ list .end - list .start ⌝ }
 {
-    if list.start < list.end { list.end - list.start } else { 0 }
+    if list.start < list.end {
+        list.end - list.start
+    } else {
+        0
+    }
 }
 
 // Whether n words at one place are those at another.

@@ -5,7 +5,7 @@
 // groups: groups and subgroups of a list, by places.
 pub mod arena;
 pub mod expand;
+mod groups;
 pub mod known;
 pub mod parents;
-mod groups;
-mod walk;
+pub mod walk;

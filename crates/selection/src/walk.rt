@@ -2,30 +2,48 @@
 // any image; what it yields is the merge theory's walk where the image is good and the operation's sets are sound.
 use crate::arena::Arena;
 use crate::arena::List;
+use crate::arena::Reply;
 use crate::arena::Walk;
+use crate::arena::arena_of;
 use crate::expand::Expansion;
 use crate::expand::expand_selections;
 use crate::expand::queue_set;
 use crate::groups::Part;
 use crate::groups::Segment;
+use crate::groups::find_group;
 use crate::groups::find_member;
+use crate::groups::first_subgroup;
+use crate::groups::group_part;
+use crate::groups::next_subgroup;
 use crate::groups::row_at;
+use crate::groups::subgroup_part;
 use crate::known::is_known;
 use crate::known::keep;
 use crate::known::list_length;
+use lists::clear;
+use lists::least;
+use tables::FRAGMENTS;
 use tables::NONE;
 use tables::columns::field_arguments;
 use tables::columns::field_name;
 use tables::columns::field_type;
 use tables::columns::is_empty_set;
 use tables::columns::selection_target;
+use tables::count;
 use values::same_arguments;
 use values::shape::same_output_type_shape;
 ghost use mathlib.Core.Path.{_≡_};
 ghost use mathlib.Core.Bool.{true, false};
 ghost use Prim.Native.Nat.{_+_, _<_};
-ghost use Rattle.selection.specs.Refining.{charged, MeetsList, Ample, Begun, MeetsSets, passOf};
+ghost use Rattle.selection.specs.Refining.{charged, MeetsList, Ample, Begun, MeetsSets, MeetsPart, WalksList, passOf};
+ghost use Rattle.selection.specs.Validating.{MeetsOperation, Runs, Validates};
 ghost use Rattle.selection.specs.Comparing.{kindOfClash, conflicted, ComparesSegment, ComparesPart, fieldNext, fieldWords, QueuesSegment, QueuesPart};
+
+// One more than the links of the document: a set lies fewer links below the operation's.
+const LEVELS: u32 = 502;
+
+// No budget is larger.
+const MOST_WORK: u32 = 1000000;
 
 // What has been met: the list, and whether it is new and paid, so that the walk goes deeper into it.
 pub struct Met {
@@ -112,7 +130,11 @@ fn meet_sets(image: &[u32], s: &mut [u32], arena: Arena, work: u32, walk: Walk, 
 fn shape_clash(image: &[u32], a: u32, b: u32) -> u32
     ensures { λ r. ⌜ r ≡ kindOfClash (passOf (now (image .entry)) true .clash a b) ⌝ }
 {
-    if same_output_type_shape(image, field_type(image, a), field_type(image, b)) { 0 } else { 14 }
+    if same_output_type_shape(image, field_type(image, a), field_type(image, b)) {
+        0
+    } else {
+        14
+    }
 }
 
 // 15 or 16 where two fields differ in name or arguments, else 0.
@@ -122,7 +144,11 @@ fn same_name_and_arguments(image: &[u32], a: u32, b: u32) -> u32
     if field_name(image, a) != field_name(image, b) {
         return 15;
     }
-    if same_arguments(image, field_arguments(image, a), field_arguments(image, b)) { 0 } else { 16 }
+    if same_arguments(image, field_arguments(image, a), field_arguments(image, b)) {
+        0
+    } else {
+        16
+    }
 }
 
 // What two fields of one part conflict in, in the shape pass or in the parent pass.
@@ -178,12 +204,32 @@ fn compare_part(image: &[u32], s: &[u32], arena: Arena, walk: Walk, part: Part, 
     ensures { λ r. ⌜ ComparesPart (now (image .entry)) (now (s .entry)) arena walk part shape r ⌝ }
 {
     let a = row_at(s, arena, part.first);
-    let front = compare_segment(image, s, arena, walk, part.list, part.front, shape, a, part.first + 1);
+    let front = compare_segment(
+        image,
+        s,
+        arena,
+        walk,
+        part.list,
+        part.front,
+        shape,
+        a,
+        part.first + 1,
+    );
     let kind = front.reply.kind;
     if kind != 0 {
         return front;
     }
-    compare_segment(image, s, arena, front, part.list, part.back, shape, a, part.next)
+    compare_segment(
+        image,
+        s,
+        arena,
+        front,
+        part.list,
+        part.back,
+        shape,
+        a,
+        part.next,
+    )
 }
 
 // The set of a field is queued, if it has one that is not empty.
@@ -229,4 +275,205 @@ fn queue_part(image: &[u32], s: &mut [u32], arena: Arena, x: Expansion, part: Pa
 {
     let front = queue_segment(image, s, arena, x, part.list, part.front, part.first);
     queue_segment(image, s, arena, front, part.list, part.back, part.next)
+}
+
+// One part: compared, and its sets met.
+fn meet_part(
+    image: &[u32],
+    s: &mut [u32],
+    arena: Arena,
+    work: u32,
+    walk: Walk,
+    part: Part,
+    shape: bool,
+) -> Met
+    requires { ⌜ Ample work 0 walk × (part .first < part .list .end) ⌝ }
+    ensures { λ r. ⌜ MeetsPart (now (image .entry)) arena work (now (s .entry)) (now (s .exit)) walk part shape r ⌝ }
+{
+    let compared = compare_part(image, &s[..], arena, walk, part, shape);
+    let list = part.list;
+    let kind = compared.reply.kind;
+    if kind != 0 {
+        return Met {
+            walk: compared,
+            list,
+            deeper: false,
+        };
+    }
+    let queued = queue_part(image, s, arena, begin_expansion(work, compared), part);
+    let sets = queued.queued;
+    if sets == 0 {
+        return Met {
+            walk: compared,
+            list,
+            deeper: false,
+        };
+    }
+    meet_sets(image, s, arena, work, compared, queued)
+}
+
+// The shape pass over a list, group by group, each with all that is below it. `level` falls.
+fn same_response_shape_by_name(
+    image: &[u32],
+    s: &mut [u32],
+    arena: Arena,
+    work: u32,
+    walk: Walk,
+    list: List,
+    level: u32,
+) -> Walk
+    requires { ⌜ Ample work 0 walk ⌝ }
+    ensures { λ r. ⌜ WalksList (now (image .entry)) arena work (now (s .entry)) (now (s .exit)) walk list true level r ⌝ }
+{
+    if level == 0 {
+        return walk;
+    }
+    let end = list.end;
+    let mut next = walk;
+    let mut place = find_group(image, &s[..], arena, list, list.start);
+    while place < end {
+        let part = group_part(image, &s[..], arena, list, place);
+        let met = meet_part(image, s, arena, work, next, part, true);
+        next = met.walk;
+        if met.deeper {
+            next = same_response_shape_by_name(image, s, arena, work, next, met.list, level - 1);
+        }
+        if next.reply.kind != 0 {
+            return next;
+        }
+        place = find_group(image, &s[..], arena, list, place + 1);
+    }
+    next
+}
+
+// The parent pass over a list, subgroup by subgroup, each with all that is below it. `level` falls.
+fn same_for_common_parents_by_name(
+    image: &[u32],
+    s: &mut [u32],
+    arena: Arena,
+    work: u32,
+    walk: Walk,
+    list: List,
+    level: u32,
+) -> Walk
+    requires { ⌜ Ample work 0 walk ⌝ }
+    ensures { λ r. ⌜ WalksList (now (image .entry)) arena work (now (s .entry)) (now (s .exit)) walk list false level r ⌝ }
+{
+    if level == 0 {
+        return walk;
+    }
+    let end = list.end;
+    let mut next = walk;
+    let group = find_group(image, &s[..], arena, list, list.start);
+    let mut at = first_subgroup(image, &s[..], arena, list, group);
+    while at.group < end {
+        let part = subgroup_part(image, &s[..], arena, list, at);
+        let met = meet_part(image, s, arena, work, next, part, false);
+        next = met.walk;
+        if met.deeper {
+            next = same_for_common_parents_by_name(
+                image,
+                s,
+                arena,
+                work,
+                next,
+                met.list,
+                level - 1,
+            );
+        }
+        if next.reply.kind != 0 {
+            return next;
+        }
+        at = next_subgroup(image, &s[..], arena, list, at);
+    }
+    next
+}
+
+// The operation's own set is met, with nothing known.
+fn meet_operation(
+    image: &[u32],
+    s: &mut [u32],
+    arena: Arena,
+    work: u32,
+    walk: Walk,
+    operation: u32,
+) -> Met
+    requires { ⌜ Ample work 0 walk ⌝ }
+    ensures { λ r. ⌜ MeetsOperation (now (image .entry)) arena work operation (now (s .entry)) (now (s .exit)) walk r ⌝ }
+{
+    let mut next = walk;
+    next.known = 0;
+    let queued = queue_set(s, arena, begin_expansion(work, next), operation);
+    meet_sets(image, s, arena, work, next, queued)
+}
+
+fn shape_pass(
+    image: &[u32],
+    s: &mut [u32],
+    arena: Arena,
+    work: u32,
+    walk: Walk,
+    operation: u32,
+) -> Walk
+    requires { ⌜ Ample work 0 walk ⌝ }
+    ensures { λ r. ⌜ Runs (now (image .entry)) arena work operation (now (s .entry)) (now (s .exit)) walk true r ⌝ }
+{
+    let met = meet_operation(image, s, arena, work, walk, operation);
+    let next = met.walk;
+    if met.deeper {
+        return same_response_shape_by_name(image, s, arena, work, next, met.list, LEVELS);
+    }
+    next
+}
+
+fn parent_pass(
+    image: &[u32],
+    s: &mut [u32],
+    arena: Arena,
+    work: u32,
+    walk: Walk,
+    operation: u32,
+) -> Walk
+    requires { ⌜ Ample work 0 walk ⌝ }
+    ensures { λ r. ⌜ Runs (now (image .entry)) arena work operation (now (s .entry)) (now (s .exit)) walk false r ⌝ }
+{
+    let met = meet_operation(image, s, arena, work, walk, operation);
+    let next = met.walk;
+    if met.deeper {
+        return same_for_common_parents_by_name(image, s, arena, work, next, met.list, LEVELS);
+    }
+    next
+}
+
+// The merge walk of one operation: kind 0, or 14 to 17. `used` goes on from the operations before.
+pub fn validate_operation(
+    image: &[u32],
+    s: &mut [u32],
+    work: u32,
+    operation: u32,
+    used: u32,
+) -> Reply
+    ensures { λ r. ⌜ Validates (now (image .entry)) work operation used (now (s .entry)) (now (s .exit)) r ⌝ }
+{
+    let arena = arena_of(image);
+    let budget = least(work, MOST_WORK);
+    clear(s, arena.marks as usize, count(image, FRAGMENTS) as usize);
+    let reply = Reply {
+        kind: 0,
+        operation,
+        a: 0,
+        b: 0,
+        used,
+    };
+    let start = Walk {
+        reply,
+        known: 0,
+        expansions: 0,
+    };
+    let shaped = shape_pass(image, s, arena, budget, start, operation);
+    if shaped.reply.kind != 0 {
+        return shaped.reply;
+    }
+    let end = parent_pass(image, s, arena, budget, shaped, operation);
+    end.reply
 }

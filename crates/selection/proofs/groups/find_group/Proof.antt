@@ -1,10 +1,8 @@
 -- `groups::find_group` meets its contract. The loop's invariant: the places passed fail. Assumes nothing.
-use mathlib.Core.List.{List}
-use Prim.Native.Nat.{ℕ, _-_}
+use Prim.Native.Nat.{_-_}
 use native.Mathlib.Omega.{arith}
-use mathlib.Core.Bool.{Bool, true, false}
 use denote.Ref.{now}
-use mathlib.Core.Path.{_≡_, sym, ap, _∙_}
+use mathlib.Core.Path.{sym, _∙_}
 use Rattle.selection.proofs.PlaceLaws.{Passed, passed-none, passed-more, seek-found, seek-none}
 use Rattle.selection.specs.Grouping.{isFirstOfName}
 use Rattle.selection.proofs.groups.find_group.Statement.{statement}

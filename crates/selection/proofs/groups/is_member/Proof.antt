@@ -1,7 +1,7 @@
 -- `groups::is_member` meets its contract: a law for each way out. Assumes nothing.
 use borrow.Author.Tests.{eq-eqb, ne-eqb}
 use borrow.Author.Needs.{needs}
-use mathlib.Core.Path.{_≡_, refl, sym, _∙_}
+use mathlib.Core.Path.{_≡_, sym, _∙_}
 use lib.Dec.{eqb}
 use Prim.Native.Nat.{ℕ}
 use mathlib.Core.List.{List}

@@ -1,9 +1,9 @@
 -- `groups::opens_subgroup` meets its contract: a law for each way out. Assumes nothing.
 use mathlib.Core.List.{List}
 use borrow.Author.Needs.{needs}
-use Prim.Native.Nat.{ℕ, _-_}
+use Prim.Native.Nat.{ℕ}
 use borrow.Author.Tests.{eq-eqb, ne-eqb}
-use mathlib.Core.Bool.{Bool, true, false}
+use mathlib.Core.Bool.{true, false}
 use lib.ListN.{getD}
 use denote.Ref.{now}
 use mathlib.Core.Path.{_≡_, sym, ap, _∙_}

@@ -1,6 +1,6 @@
 -- `groups::subgroup_part` meets its contract. Assumes nothing.
 use denote.Ref.{now}
-use mathlib.Core.Path.{_≡_, sym, ap, _∙_}
+use mathlib.Core.Path.{sym, ap, _∙_}
 use borrow.Author.Needs.{needs}
 use Rattle.selection.specs.Grouping.{hasObjectParent, subgroupPart}
 use Rattle.selection.proofs.groups.subgroup_part.Statement.{statement}

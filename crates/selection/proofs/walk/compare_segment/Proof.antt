@@ -1,11 +1,7 @@
 -- `walk::compare_segment` meets its contract. The loop's invariant: what is left decides. Assumes nothing.
-use denote.Ref.{now}
-use mathlib.Core.Path.{_≡_, refl, sym, ap, _∙_}
+use mathlib.Core.Path.{refl, sym, _∙_}
 use native.Mathlib.Omega.{arith}
-use Prim.Native.Nat.{_+_, _-_, _≤_}
-use Rattle.selection.specs.Comparing.{kindOfClash}
-use Rattle.selection.proofs.PlaceLaws.{seek-ge}
-use Rattle.selection.specs.Refining.{passOf}
+use Prim.Native.Nat.{_-_}
 use Rattle.selection.proofs.CompareLaws.{Comparing, member-ahead, comparing-first, comparing-next, comparing-clash, comparing-done}
 use Rattle.selection.proofs.walk.compare_segment.Statement.{statement}
 use Rattle.selection.proofs.walk.compare_segment.Tie as tie

@@ -1,12 +1,11 @@
 -- `walk::meet_list` meets its contract: a law for each of its three ways. Assumes nothing.
 use borrow.Author.Needs.{needs}
-use mathlib.Core.Path.{_≡_, refl, sym, ap, _∙_}
+use mathlib.Core.Path.{_≡_, refl, ap, _∙_}
 use lib.ListN.{set}
 use mathlib.Core.Bool.{true, false}
 use borrow.Author.Tests.{eq-eqb, ne-eqb}
-use Prim.Native.Nat.{ℕ, _+_, _-_}
+use Prim.Native.Nat.{ℕ, _+_}
 use mathlib.Core.List.{List}
-use Rattle.selection.specs.declared.walk.Met.{Met}
 use Rattle.selection.specs.declared.arena.List as places
 use Rattle.selection.specs.declared.arena.Walk as states
 use Rattle.selection.specs.KnownLists.{Decides}

@@ -1,7 +1,7 @@
 -- `walk::queue_segment` meets its contract. The loop's invariant: the sets of the fields passed stand in the queue. Assumes nothing.
-use mathlib.Core.Path.{_≡_, refl, sym, ap, _∙_}
+use mathlib.Core.Path.{refl}
 use native.Mathlib.Omega.{arith}
-use Prim.Native.Nat.{_+_, _-_, _≤_}
+use Prim.Native.Nat.{_-_}
 use Rattle.selection.proofs.QueueingLaws.{Queueing, queueing-first, queueing-next, queueing-done}
 use Rattle.selection.proofs.CompareLaws.{member-ahead}
 use Rattle.selection.proofs.walk.queue_segment.Statement.{statement}

@@ -1,0 +1,127 @@
+-- The check of an operation: its own set is met, and the two passes run. Assumes nothing.
+use mathlib.Core.Path.{_≡_, sym, _∙_, subst}
+use mathlib.Core.Bool.{Bool, true, false}
+use mathlib.Core.List.{List, [], _∷_, _++_}
+use Prim.Native.Nat.{ℕ, suc, _+_, _-_, _≤_, _<_}
+use native.Mathlib.Omega.{arith}
+use lib.ListN.{length}
+use Rattle.lists.specs.Part.{Stores, Outside}
+use Rattle.lists.proofs.Parts.{stores-none, outside-wider}
+use Rattle.merge_theory.specs.Rule.{Reached, start}
+use Rattle.merge_theory.specs.Walk.{Step, Pass, walk}
+use Rattle.merge_theory.proofs.ListLaws.{not-in-nil, only}
+use Rattle.tables.specs.Layout.{operations, sets}
+use Rattle.tables.specs.Image.{countAt}
+use Rattle.selection.specs.declared.arena.Arena.{Arena}
+use Rattle.selection.specs.declared.arena.Walk as states
+use Rattle.selection.specs.declared.expand.Expansion.{Expansion}
+use Rattle.selection.specs.declared.walk.Met.{Met}
+use Rattle.selection.specs.ImageDocument.{limitOfLinks}
+use Rattle.selection.specs.Expanding.{queueNext, queueWords, once-none, once-more, StartSet, of-operation}
+use Rattle.selection.specs.Refining.{document, passOf, Ample, Begun, Site, Refines, Meets, MeetsSets, WalksList}
+use Rattle.selection.specs.Validating.{forgotten, MeetsOperation, Runs}
+use Rattle.selection.proofs.StepLaws.{places}
+use Rattle.selection.proofs.ExpandedLaws.{queue-next, queue-stores, queue-outside}
+use Rattle.selection.proofs.KnownLaws.{known-nothing}
+use Rattle.selection.proofs.RefineLaws.{kept-trans, then-go, by}
+use Rattle.selection.proofs.QueueingLaws.{site-queue, next-listed}
+use Rattle.selection.proofs.LoopLaws.{WalksAs}
+use Rattle.selection.proofs.PartMeets.{aside, finished-first}
+
+-- words of the queue changed before
+meets-aside : {image : List ℕ} {arena : Arena} {work op : ℕ} {P : Pass} {step : ℕ → Step} {s s₁ s′ : List ℕ} {z : states.Walk} {m : Met} → Site image arena work op s z
+    → Outside (arena .queue) (arena .store - arena .queue) s s₁ → z .reply .kind ≡ 0 → Meets image arena work op P step s₁ s′ z m → Meets image arena work op P step s s′ z m
+meets-aside {step = step} site o go inner =
+    let beside = aside site o in
+    record {
+      done = λ flat levels. by (step levels) (λ ls used h. sym (finished-first (step levels) ls used)) (then-go beside go (inner .done flat levels));
+      entered = λ deeper.
+          let e = inner .entered deeper in
+          record {
+            list = e .list;
+            stands = e .stands;
+            ordered = e .ordered;
+            rows = e .rows;
+            stored = e .stored;
+            site = e .site;
+            kept = kept-trans (beside .kept) (e .kept);
+            goes = λ ls used h. e .goes ls used (beside .tells ls used h);
+            same = λ levels ls used h. e .same levels ls used (beside .tells ls used h);
+          };
+    }
+
+-- the next pass begins with nothing known
+pub site-forgotten : {image : List ℕ} {arena : Arena} {work op : ℕ} {s : List ℕ} {z : states.Walk} → Site image arena work op s z → Site image arena work op s (forgotten z)
+site-forgotten site = record {
+  good = site .good;
+  regions = site .regions;
+  sound = site .sound;
+  parents = site .parents;
+  room = site .room;
+  marks = site .marks;
+  within = site .within;
+}
+
+pub ample-forgotten : {work : ℕ} {z : states.Walk} → Ample work 0 z → Ample work 0 (forgotten z)
+ample-forgotten a = record { going = a .going; paid = omega arith; few = omega arith; counted = a .counted; countable = a .countable; budget = a .budget }
+
+pub begun-set : (arena : Arena) {z : states.Walk} {x₀ x : Expansion} → Begun z x₀ → x ≡ queueNext arena x₀ → Begun z x
+begun-set arena {z} {x₀} begun e = rw e (record { listed = next-listed arena x₀ .0 ∙ begun .listed; number = next-listed arena x₀ .1 ∙ begun .number })
+
+pub operation-met : {image : List ℕ} {arena : Arena} {work operation : ℕ} {s s₁ s′ : List ℕ} {z : states.Walk} (x₀ : Expansion) {x : Expansion} {m : Met} → Ample work 0 z → x₀ .queued ≡ 0
+    → x ≡ queueNext arena x₀ → s₁ ≡ queueWords arena x₀ s operation → MeetsSets image arena work s₁ s′ (forgotten z) x m → MeetsOperation image arena work operation s s′ z m
+operation-met {image} {arena} {work} {operation} {s} {s₁} {s′} {z} x₀ {x} {m} ample empty next words met = record {
+  same = met .operation;
+  going = met .going;
+  ample = met .ample;
+  meets = λ P site is row.
+      let r = places (site .good) (site .regions) in
+      let site₀ = site-forgotten site in
+      let some-sets : operation < countAt image sets = omega (arith, site .good .own-sets, row) in
+      let room : arena .queue + x₀ .queued < arena .store = omega (arith, r .store, some-sets, empty) in
+      let inside : arena .store ≤ length s = omega (arith, site .room) in
+      let nothing : Stores s (arena .queue) (x₀ .queued) [] = rw empty (stores-none s (arena .queue) (omega (arith, inside, r .store))) in
+      let o : Outside (arena .queue) (arena .store - arena .queue) s s₁ = rw words (outside-wider (queue-outside arena x₀ s operation room) (arena .queue) (arena .store - arena .queue) (omega arith) (omega (arith, room))) in
+      let one : x .queued ≡ x₀ .queued + 1 = rw (next, queue-next arena x₀ s operation room) in
+      meets-aside site₀ o (ample .going) (met .meets P (operation ∷ []) (site-queue site₀ o) (record {
+        queue = rw (one, words) (queue-stores arena x₀ s operation room nothing inside);
+        allowed = only (StartSet image) (of-operation row);
+        once = once-more not-in-nil once-none;
+        hand = only (Reached (document image) (z .reply .operation)) (rw is start);
+      }));
+}
+
+-- ---- a pass
+
+runs-by : {image : List ℕ} {arena : Arena} {work operation : ℕ} {s s′ : List ℕ} {z z′ : states.Walk} {isShape : Bool} → length s′ ≡ length s → z′ .reply .operation ≡ z .reply .operation
+    → (z′ .reply .kind ≡ 0 → Ample work 0 z′)
+    → (Site image arena work (z .reply .operation) s z → operation ≡ z .reply .operation → operation < countAt image operations
+    → Refines image arena work (z .reply .operation) (walk (document image) (passOf image isShape) work (suc limitOfLinks) (operation ∷ [])) s s′ (forgotten z) z′)
+    → Runs image arena work operation s s′ z isShape z′
+runs-by {arena = arena} {s = s} long same ample refines = record {
+  long = long;
+  same = same;
+  ample = ample;
+  site = λ site is row go. refines site is row .site go;
+  frame = λ site is row. let k = refines site is row .kept in record { long = k .long; below = k .parents; beyond = k .beyond };
+  tells = λ used site is row reply. refines site is row .tells [] used (record { known = known-nothing s (arena .store) (omega (arith, site .room)); reply = reply });
+}
+
+module _ {image : List ℕ} {arena : Arena} {work operation : ℕ} {s s₁ : List ℕ} {z : states.Walk} {m : Met} (isShape : Bool) (long₁ : length s₁ ≡ length s)
+    (met : MeetsOperation image arena work operation s s₁ z m) where
+  pub pass-flat : m .deeper ≡ false → Runs image arena work operation s s₁ z isShape (m .walk)
+  pass-flat flat = runs-by long₁ (met .same) (met .ample) (λ site is row. met .meets (passOf image isShape) site is row .done flat (suc limitOfLinks))
+
+  pub pass-deeper : m .deeper ≡ true → {s′ : List ℕ} {z′ : states.Walk} → WalksList image arena work s₁ s′ (m .walk) (m .list) isShape (suc limitOfLinks) z′
+      → Runs image arena work operation s s′ z isShape z′
+  pass-deeper deeper {s′} {z′} walked = runs-by (walked .long ∙ long₁) (walked .operation ∙ met .same) (walked .ample) λ site is row.
+      let e = met .meets (passOf image isShape) site is row .entered deeper in
+      let r = walks (e .list) (e .site) (e .stands) (e .ordered) (e .stored) (e .rows) in
+      record {
+        tells = λ ls used h. rw (e .same (suc limitOfLinks) ls used h) (r .tells (ls ++ e .list ∷ []) (used + suc (length (e .list))) (e .goes ls used h));
+        site = r .site;
+        kept = kept-trans (e .kept) (r .kept);
+      }
+    where
+      walks : WalksAs image arena work (z .reply .operation) s₁ s′ (m .walk) (m .list) isShape (suc limitOfLinks) z′
+      walks = subst (λ (op : ℕ). WalksAs image arena work op s₁ s′ (m .walk) (m .list) isShape (suc limitOfLinks) z′) (met .same) (walked .walks)

@@ -1,0 +1,209 @@
+-- One part of a list: compared, and its sets met. The three ways that this ends. Assumes nothing.
+use mathlib.Core.Path.{_≡_, refl, sym, ap, _∙_}
+use mathlib.Core.Logic.{inr}
+use mathlib.Core.Bool.{Bool, false, false≢true}
+use mathlib.Core.Option.{Option, none, some}
+use mathlib.Core.List.{List, [], _∷_}
+use Prim.Native.Nat.{ℕ, _-_, _≤_}
+use native.Mathlib.Omega.{arith}
+use lib.ListN.{length}
+use Rattle.lists.specs.Part.{Outside}
+use Rattle.lists.proofs.Parts.{stores-none, stores-length, stores-kept}
+use Rattle.merge_theory.specs.Document.{Cause}
+use Rattle.merge_theory.specs.Walk.{Result, finished, conflict, Step, after, settle, against, compareFirst, descend, setsBelow, walk}
+use Rattle.tables.specs.Layout.{sets}
+use Rattle.selection.specs.declared.arena.Arena.{Arena}
+use Rattle.selection.specs.declared.arena.Walk as states
+use Rattle.selection.specs.declared.expand.Expansion.{Expansion}
+use Rattle.selection.specs.declared.groups.Part.{Part}
+use Rattle.selection.specs.declared.walk.Met.{Met}
+use Rattle.selection.specs.KnownLists.{AtHand}
+use Rattle.selection.specs.Grouping.{PartAt}
+use Rattle.selection.specs.Refining.{document, passOf, Tells, Ample, Begun, Site, Rows, Refines, lower, MeetsSets, MeetsPart}
+use Rattle.selection.specs.Comparing.{ComparesPart, QueuesPart, Queues}
+use Rattle.selection.proofs.StepLaws.{places}
+use Rattle.selection.proofs.RefineLaws.{some-kind, kept-none, kept-trans, then-go, then-stop, by}
+use Rattle.selection.proofs.QueueingLaws.{grounded, site-queue}
+use Rattle.selection.proofs.BelowLaws.{below-start, below-hand, below-once, below-few}
+
+-- a comparison finds a conflict, or changes nothing
+pub data Quiet (ls : List (List ℕ)) (used : ℕ) : Result → Type 0 where
+  quiet : Quiet ls used (finished ls used)
+  loud : (c : Cause) (a b : ℕ) → Quiet ls used (conflict c a b used)
+
+against-quiet : (clash : ℕ → ℕ → Option Cause) (a : ℕ) (others : List ℕ) (ls : List (List ℕ)) (used : ℕ) → Quiet ls used (against clash a others ls used)
+unfolding against settle
+against-quiet clash a [] ls used = quiet
+against-quiet clash a (b ∷ others) ls used = go (clash a b) (against-quiet clash a others ls used)
+  where
+    go : (o : Option Cause) → Quiet ls used (against clash a others ls used) → Quiet ls used (settle o a b (against clash a others) ls used)
+    go none q = q
+    go (some c) q = loud c a b
+
+compare-quiet : (clash : ℕ → ℕ → Option Cause) (rows : List ℕ) (ls : List (List ℕ)) (used : ℕ) → Quiet ls used (compareFirst clash rows ls used)
+unfolding compareFirst
+compare-quiet clash [] ls used = quiet
+compare-quiet clash (a ∷ others) ls used = against-quiet clash a others ls used
+
+finished-if : (s : List ℕ) (store op : ℕ) (z : states.Walk) {ls : List (List ℕ)} {used : ℕ} (r : Result) → Quiet ls used r → Tells s store op z r → z .reply .kind ≡ 0 → r ≡ finished ls used
+finished-if s store op z (finished ls′ used′) quiet h go = refl
+finished-if s store op z (conflict c a b used′) (loud d p q) h go = absurd (some-kind c (sym (ap (λ r. r .kind) h) ∙ go))
+
+pub finished-first : (g : Step) (ls : List (List ℕ)) (used : ℕ) → after (finished ls used) g ≡ g ls used
+unfolding after
+finished-first g ls used = refl
+
+nothing-below : (f : List ℕ → Step) (sets : List ℕ) → length sets ≡ 0 → (ls : List (List ℕ)) (used : ℕ) → descend f sets ls used ≡ finished ls used
+unfolding descend
+nothing-below f [] e ls used = refl
+nothing-below f (t ∷ sets) e ls used = absurd (omega arith)
+
+sets-below : (f : List ℕ → Step) (sets : List ℕ) → (length sets ≡ 0 → ⊥) → (ls : List (List ℕ)) (used : ℕ) → descend f sets ls used ≡ f sets ls used
+unfolding descend
+sets-below f [] some-sets ls used = absurd (some-sets refl)
+sets-below f (t ∷ sets) some-sets ls used = refl
+
+-- only words of the queue have changed
+pub aside : {image : List ℕ} {arena : Arena} {work op : ℕ} {s s′ : List ℕ} {z : states.Walk} → Site image arena work op s z → Outside (arena .queue) (arena .store - arena .queue) s s′
+    → Refines image arena work op finished s s′ z z
+aside {image} {arena} {work} {op} {s} {s′} {z} site o =
+    let r = places (site .good) (site .regions) in
+    record {
+      tells = λ ls used h. record { known = record { stored = stores-kept o (h .known .stored) (inr (omega (arith, r .store))) }; reply = h .reply };
+      site = λ _. site-queue site o;
+      kept = record {
+        long = o .long;
+        parents = λ k h. o .below k (omega (arith, r .queue));
+        known = λ k h less. o .above k (omega (arith, r .store));
+        beyond = λ k h. o .above k (omega (arith, r .store));
+        grows = omega arith;
+      };
+    }
+
+module _ {image : List ℕ} {arena : Arena} {work : ℕ} {s : List ℕ} {z z₁ : states.Walk} {part : Part} {isShape : Bool} (ample : Ample work 0 z)
+    (compared : ComparesPart image s arena z part isShape z₁) where
+  module _ (l rows : List ℕ) (site : Site image arena work (z .reply .operation) s z) (stands : AtHand s (arena .store) (part .list) l)
+      (listed : Rows image arena work (z .reply .operation) l) (p : PartAt (document image) s (arena .store) l part rows) where
+    compare-refines : (z₁ .reply .kind ≡ 0 → Site image arena work (z .reply .operation) s z₁)
+        → Refines image arena work (z .reply .operation) (compareFirst (passOf image isShape .clash) rows) s s z z₁
+    compare-refines site₁ = record {
+      tells = λ ls used h. compared .tells l rows (grounded site listed stands) p ls used h;
+      site = site₁;
+      kept = kept-none s z z₁ (omega (arith, compared .known));
+    }
+
+  -- a conflict
+  pub part-stops : (z₁ .reply .kind ≡ 0 → ⊥) → MeetsPart image arena work s s z part isShape (record { walk = z₁; list = part .list; deeper = false })
+  part-stops stop = record {
+    operation = compared .operation;
+    going = λ e. absurd (false≢true e);
+    ample = λ e. absurd (stop e);
+    meets = λ l rows site stands ordered listed p fields. record {
+      done = λ _ levels. then-stop (lower image arena work (z .reply .operation) (passOf image isShape) levels (setsBelow (document image) rows)) (compare-refines l rows site stands listed p (λ e. absurd (stop e))) stop;
+      entered = λ e. absurd (false≢true e);
+    };
+  }
+
+  module _ (go : z₁ .reply .kind ≡ 0) {s₁ : List ℕ} {x₀ x : Expansion} (begun : Begun z₁ x₀) (empty : x₀ .queued ≡ 0) (queued : QueuesPart image arena s s₁ x₀ x part) where
+    same-state : z₁ ≡ z
+    same-state = compared .same go
+
+    module _ (l rows : List ℕ) (site : Site image arena work (z .reply .operation) s z) (stands : AtHand s (arena .store) (part .list) l) (ordered : part .list .start ≤ part .list .end)
+        (listed : Rows image arena work (z .reply .operation) l) (p : PartAt (document image) s (arena .store) l part rows) (fields : Rows image arena work (z .reply .operation) rows) where
+      below : List ℕ
+      below = setsBelow (document image) rows
+
+      queues : Queues image arena s s₁ x₀ x [] rows
+      queues = queued .queues work (z .reply .operation) z l [] rows p (record {
+        site = site;
+        stands = stands;
+        ordered = ordered;
+        listed = listed;
+        queue = rw empty (stores-none s (arena .queue) (omega (arith, site .room, places (site .good) (site .regions) .store)));
+        fits = omega (arith, below-few site fields, places (site .good) (site .regions) .store);
+      })
+
+      compare-done : Refines image arena work (z .reply .operation) (compareFirst (passOf image isShape .clash) rows) s s z z
+      compare-done = rw same-state at (compare-refines l rows site stands listed p (λ _. rw same-state site))
+
+      goes : z .reply .kind ≡ 0
+      goes = ample .going
+
+      frame : Outside (arena .queue) (arena .store - arena .queue) s s₁
+      frame = queues .frame
+
+      size : length (setsBelow (document image) rows) ≡ x .queued
+      size = stores-length (queues .queue)
+
+    -- no sets below
+    pub part-flat : x .queued ≡ 0 → MeetsPart image arena work s s₁ z part isShape (record { walk = z₁; list = part .list; deeper = false })
+    part-flat none-queued = rw same-state (record {
+      operation = refl;
+      going = λ e. absurd (false≢true e);
+      ample = λ _. ample;
+      meets = λ l rows site stands ordered listed p fields. record {
+        done = λ _ levels.
+            let q = queues l rows site stands ordered listed p fields in
+            then-go (compare-done l rows site stands ordered listed p fields) (ample .going)
+            (by (lower image arena work (z .reply .operation) (passOf image isShape) levels (setsBelow (document image) rows))
+            (λ ls used h. nothing-below (walk (document image) (passOf image isShape) work levels) (setsBelow (document image) rows) (size l rows site stands ordered listed p fields ∙ none-queued) ls used)
+            (aside site (q .frame)));
+        entered = λ e. absurd (false≢true e);
+      };
+    })
+
+    -- the sets below are met
+    pub part-meets : (x .queued ≡ 0 → ⊥) → {s′ : List ℕ} {m : Met} → MeetsSets image arena work s₁ s′ z₁ x m → MeetsPart image arena work s s′ z part isShape m
+    part-meets some-queued {s′} {m} met₁ = record {
+      operation = met .operation;
+      going = met .going;
+      ample = met .ample;
+      meets = λ l rows site stands ordered listed p fields.
+          let q = queues l rows site stands ordered listed p fields in
+          let P = passOf image isShape in
+          let below = setsBelow (document image) rows in
+          let beside = aside site (q .frame) in
+          let some-below : length (setsBelow (document image) rows) ≡ 0 → ⊥ = λ e. some-queued (sym (size l rows site stands ordered listed p fields) ∙ e) in
+          let inner = met .meets (passOf image isShape) (setsBelow (document image) rows) (site-queue site (q .frame)) (record {
+            queue = q .queue;
+            allowed = below-start site fields;
+            once = below-once site fields;
+            hand = below-hand site fields;
+          }) in
+          record {
+            done = λ flat levels.
+                then-go (compare-done l rows site stands ordered listed p fields) (ample .going)
+                (by (lower image arena work (z .reply .operation) (passOf image isShape) levels (setsBelow (document image) rows))
+                (λ ls used h. sets-below (walk (document image) (passOf image isShape) work levels) (setsBelow (document image) rows) some-below ls used ∙ sym (finished-first _ ls used))
+                (then-go beside (ample .going) (inner .done flat levels)));
+            entered = λ deeper.
+                let e = inner .entered deeper in
+                record {
+                  list = e .list;
+                  stands = e .stands;
+                  ordered = e .ordered;
+                  rows = e .rows;
+                  stored = e .stored;
+                  site = e .site;
+                  kept = kept-trans (beside .kept) (e .kept);
+                  goes = λ ls used h. e .goes ls used (beside .tells ls used h);
+                  same = λ levels ls used h.
+                      let still : compareFirst (passOf image isShape .clash) rows ls used ≡ finished ls used =
+                      finished-if s (arena .store) (z .reply .operation) z (compareFirst (passOf image isShape .clash) rows ls used) (compare-quiet (passOf image isShape .clash) rows ls used) (compare-done l rows site stands ordered listed p fields .tells ls used h) (ample .going) in
+                      ap (λ r. after r (lower image arena work (z .reply .operation) (passOf image isShape) levels (setsBelow (document image) rows))) still
+                      ∙ finished-first _ ls used
+                      ∙ sets-below (walk (document image) (passOf image isShape) work levels) (setsBelow (document image) rows) some-below ls used
+                      ∙ e .same levels ls used (beside .tells ls used h);
+                };
+          };
+    }
+      where
+        met : MeetsSets image arena work s₁ s′ z x m
+        met = rw same-state at met₁
+
+pub begun-queued : {image : List ℕ} {arena : Arena} {s s′ : List ℕ} {z : states.Walk} {x₀ x : Expansion} {part : Part} → Begun z x₀ → QueuesPart image arena s s′ x₀ x part → Begun z x
+begun-queued begun queued = record { listed = queued .listed ∙ begun .listed; number = queued .number ∙ begun .number }
+
+pub ample-compared : {image s : List ℕ} {arena : Arena} {work : ℕ} {z z₁ : states.Walk} {part : Part} {isShape : Bool} → Ample work 0 z → ComparesPart image s arena z part isShape z₁
+    → z₁ .reply .kind ≡ 0 → Ample work 0 z₁
+ample-compared ample compared go = rw (compared .same go) ample

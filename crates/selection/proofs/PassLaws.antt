@@ -1,0 +1,67 @@
+-- A pass over the parts of a list: what has been walked, and what is left. Assumes nothing.
+use mathlib.Core.Path.{_≡_, refl, _∙_}
+use mathlib.Core.List.{List, [], _∷_}
+use Prim.Native.Nat.{ℕ, _≤_}
+use native.Mathlib.Omega.{arith}
+use Rattle.merge_theory.specs.Walk.{finished, Step, after, _then_, Pass, compareFirst, setsBelow, walkParts, walk}
+use Rattle.merge_theory.proofs.Loops.{after-assoc, after-ext}
+use Rattle.selection.specs.declared.arena.Arena.{Arena}
+use Rattle.selection.specs.declared.arena.Walk as states
+use Rattle.selection.specs.declared.arena.List as places
+use Rattle.selection.specs.KnownLists.{AtHand}
+use Rattle.selection.specs.Refining.{document, Site, Kept, Refines, lower, onePart}
+use Rattle.selection.proofs.ExpandedLaws.{stores-same}
+use Rattle.selection.proofs.RefineLaws.{after-finished, then-go, then-stop, by, idle}
+
+-- a list that stands in the store stays there
+pub stands-kept : {image : List ℕ} {arena : Arena} {work op : ℕ} {s s′ : List ℕ} {z z′ : states.Walk} {x : places.List} {l : List ℕ} → Kept image arena work op s s′ z z′
+    → AtHand s (arena .store) x l → x .start ≤ x .end → x .end ≤ z .known → AtHand s′ (arena .store) x l
+stands-kept kept stands ordered stored = record { rows = stores-same (kept .long) (λ k ge less. kept .known k (omega arith) (omega arith)) (stands .rows) }
+
+module _ (image : List ℕ) (arena : Arena) (work op : ℕ) (P : Pass) (levels : ℕ) where
+  -- the parts of a list that are left, with the walk of the level below
+  abbrev pub walkRest : List (List ℕ) → Step
+  walkRest rest = walkParts (document image) P (walk (document image) P work levels) rest
+
+  pub record Progress (all : List (List ℕ)) (s₀ s : List ℕ) (z₀ z : states.Walk) (rest : List (List ℕ)) : Type 0 where
+    pub front : Step
+    pub refines : Refines image arena work op front s₀ s z₀ z
+    pub splits : (ls : List (List ℕ)) (used : ℕ) → walkRest all ls used ≡ after (front ls used) (walkRest rest)
+
+  -- one part more
+  parts-cons : (rows : List ℕ) (rest : List (List ℕ)) (ls : List (List ℕ)) (used : ℕ)
+      → walkRest (rows ∷ rest) ls used ≡ after (onePart image arena work op P levels rows ls used) (walkRest rest)
+  unfolding walkParts
+  parts-cons rows rest ls used =
+      after-assoc (compareFirst (P .clash) rows ls used) (lower image arena work op P levels (setsBelow (document image) rows)) (walkRest rest)
+
+module _ {image : List ℕ} {arena : Arena} {work op : ℕ} {P : Pass} {levels : ℕ} {all : List (List ℕ)} {s₀ s : List ℕ} {z₀ z : states.Walk} where
+  split-more : (rows : List ℕ) (rest : List (List ℕ)) (g : Progress image arena work op P levels all s₀ s z₀ z (rows ∷ rest)) (ls : List (List ℕ)) (used : ℕ)
+      → walkRest image arena work op P levels all ls used ≡ after (after (g .front ls used) (onePart image arena work op P levels rows)) (walkRest image arena work op P levels rest)
+  split-more rows rest g ls used =
+      g .splits ls used
+      ∙ after-ext (g .front ls used) (walkRest image arena work op P levels (rows ∷ rest)) (onePart image arena work op P levels rows then walkRest image arena work op P levels rest) (parts-cons image arena work op P levels rows rest)
+      ∙ after-assoc (g .front ls used) (onePart image arena work op P levels rows) (walkRest image arena work op P levels rest)
+
+  pub progress-turn : (rows : List ℕ) (rest : List (List ℕ)) {s′ : List ℕ} {z′ : states.Walk} → Progress image arena work op P levels all s₀ s z₀ z (rows ∷ rest) → z .reply .kind ≡ 0
+      → Refines image arena work op (onePart image arena work op P levels rows) s s′ z z′ → Progress image arena work op P levels all s₀ s′ z₀ z′ rest
+  progress-turn rows rest g go r = record {
+    front = g .front then onePart image arena work op P levels rows;
+    refines = then-go (g .refines) go r;
+    splits = split-more rows rest g;
+  }
+
+  -- the pass stops
+  pub progress-stop : (rest : List (List ℕ)) → Progress image arena work op P levels all s₀ s z₀ z rest → (z .reply .kind ≡ 0 → ⊥)
+      → Refines image arena work op (walkRest image arena work op P levels all) s₀ s z₀ z
+  progress-stop rest g stop = by (walkRest image arena work op P levels all) (λ ls used h. g .splits ls used) (then-stop (walkRest image arena work op P levels rest) (g .refines) stop)
+
+  -- nothing is left
+  pub progress-end : Progress image arena work op P levels all s₀ s z₀ z [] → Refines image arena work op (walkRest image arena work op P levels all) s₀ s z₀ z
+  unfolding walkParts
+  progress-end g = by (walkRest image arena work op P levels all) (λ ls used h. g .splits ls used ∙ after-finished (g .front ls used)) (g .refines)
+
+pub progress-first : {image : List ℕ} {arena : Arena} {work op : ℕ} (P : Pass) (levels : ℕ) (all : List (List ℕ)) {s : List ℕ} {z : states.Walk} → Site image arena work op s z
+    → Progress image arena work op P levels all s s z z all
+unfolding after
+progress-first P levels all site = record { front = finished; refines = idle site; splits = λ ls used. refl }
