@@ -2,7 +2,7 @@
 // known lists, as its length and then its rows, and stays there where it is new and paid.
 // arena: the regions of the lent words, and the walk's state. parents: the parent type of each selection's set.
 // expand: from a queue of sets to the list of their fields. known: the store of the lists that were met.
-// groups: groups and subgroups of a list, by places.
+// groups: groups and subgroups of a list, by places. walk: the two passes over an operation, and what they charge.
 pub mod arena;
 pub mod expand;
 mod groups;

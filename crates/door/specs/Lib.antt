@@ -1,0 +1,3 @@
+-- What the contracts of the door cite.
+pub mod Spelling
+pub mod Door
