@@ -61,7 +61,7 @@ fn bytes_of(word: u32) -> Bytes
 }
 
 // A word stored from a place on, where it lies inside.
-pub fn store_word(out: &mut [u8], at: u8, word: u32)
+pub(crate) fn store_word(out: &mut [u8], at: u8, word: u32)
     requires { ⌜ at + 4 ≤ length (now out) ⌝ }
     ensures { λ _. ⌜ now (out .exit) ≡ write (now (out .entry)) at (bytesOf word) ⌝ }
 {
