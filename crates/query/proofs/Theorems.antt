@@ -1,6 +1,9 @@
 -- What is proved of the reply, in terms of the reply and the image alone: what a visitor reads first. Assumes nothing.
 --     given                every reply has its cause, and no earlier one (proofs/Cases)
 --     conflict-is-true     14, 15, 16: the two fields truly conflict at one response path
+--     fragments-fail       5 to 9: the rule on fragments fails, first at what is shown (fragment/specs/Meaning)
+--     variables-fail       10 to 13: the rule on variables fails, first at what is shown (variable/specs/Rules)
+--     passes-right         0: every rule holds, whatever the budget
 --     passes-exactly       no cause of 1 to 13, and the budget covers the walk: 0 exactly if the pairwise rule holds for every set reached
 --     given-once           two replies with a cause are one
 --     larger-budget-same   a larger budget, up to the limit and with scratch to match, changes no answer but 3 and 17
@@ -22,9 +25,15 @@ use Rattle.merge_theory.proofs.Theorems.{conflict-true, conflict-breaks, finish
 use Rattle.tables.specs.Layout.{operations}
 use Rattle.tables.specs.Image.{countAt}
 use Rattle.tables.specs.Header.{Refusal, headerFault}
-use Rattle.tables.specs.RowFault.{rowFault}
+use Rattle.tables.specs.RowFault.{rowFault, imageFault}
+use Rattle.tables.specs.Good.{Good}
+use Rattle.tables.proofs.Promise.{good-image}
 use Rattle.variable.specs.Verdict.{Shown, usageFault}
+use Rattle.variable.specs.Rules.{Verdict}
+use Rattle.variable.proofs.VerdictMeaning.{verdict-exactly}
 use Rattle.fragment.specs.Rules as fragment
+use Rattle.fragment.specs.Meaning.{Finds}
+use Rattle.fragment.proofs.Theorems.{fragments-decided}
 use Rattle.selection.specs.declared.arena.Reply.{Reply}
 use Rattle.query.specs.Needed.{mostWork, scratchNeeded}
 use Rattle.query.specs.Reply.{answer, documentOf, ofImage, ofFragments, ofVariables, ofWalk, orElse, refused, faulty, operationsFrom, reply}
@@ -263,3 +272,78 @@ pub larger-budget-same : (image : List ℕ) (less more long long′ : ℕ) → l
 larger-budget-same image less more long long′ le limit scratch h3 h17 =
     given-once image more long′ (reply image less long)
     (given-more image less more long long′ le (record { budget = λ over. omega arith; scratch = λ short. omega arith }) (reply image less long) (given image less long) h3 h17)
+
+-- ---- demand 2: kinds 5 to 13 say which rule fails and where, and 0 that every rule holds
+
+rows-good : {image : List ℕ} → headerFault image ≡ none → rowFault image ≡ none → Good image
+unfolding imageFault _▷_
+rows-good {image} header rows = good-image image (rw header rows)
+
+module _ (image : List ℕ) (work long : ℕ) where
+  fragments-of : (r : Reply) → Given image work long r → 5 ≤ r .kind → r .kind ≤ 9 → Finds image (some (fragment.refusal (r .kind) (r .operation) (r .a)))
+  fragments-of r (bad-header e) low high = absurd (omega (arith, header-1 image e))
+  fragments-of r (over-limit h w) low high = absurd (omega arith)
+  fragments-of r (short-scratch h w s) low high = absurd (omega arith)
+  fragments-of r (bad-row h w e) low high = absurd (omega (arith, row-4 image e))
+  fragments-of r (bad-fragments h w o e) low high = subst (Finds image) e (fragments-decided (rows-good h o))
+  fragments-of r (bad-variables {i} s w n o e) low high = absurd (omega (arith, usage-10-13 image i e))
+  fragments-of r (a-conflict {c = d} s w n o v e) low high = absurd (omega (arith, cause-number d))
+  fragments-of r (budget-spent s w n o v e) low high = absurd (omega arith)
+  fragments-of r (passes s w n) low high = absurd (omega arith)
+
+  variables-of : (r : Reply) → Given image work long r → 10 ≤ r .kind → r .kind ≤ 13 → Verdict image (r .operation) (some (record { kind = r .kind; a = r .a }))
+  variables-of r (bad-header e) low high = absurd (omega (arith, header-1 image e))
+  variables-of r (over-limit h w) low high = absurd (omega arith)
+  variables-of r (short-scratch h w s) low high = absurd (omega arith)
+  variables-of r (bad-row h w e) low high = absurd (omega (arith, row-4 image e))
+  variables-of r (bad-fragments h w o e) low high = absurd (omega (arith, fragments-5-9 image e))
+  variables-of r (bad-variables {i} s w n o e) low high = verdict-exactly image (sane-good s) i o _ .0 e
+  variables-of r (a-conflict {c = d} s w n o v e) low high = absurd (omega (arith, cause-number d))
+  variables-of r (budget-spent s w n o v e) low high = absurd (omega arith)
+  variables-of r (passes s w n) low high = absurd (omega arith)
+
+  -- Kinds 5 to 9: the rule on fragments that the kind stands for fails, first at what is shown, and those before it hold.
+  pub fragments-fail : 5 ≤ reply image work long .kind → reply image work long .kind ≤ 9
+      → Finds image (some (fragment.refusal (reply image work long .kind) (reply image work long .operation) (reply image work long .a)))
+  fragments-fail = fragments-of (reply image work long) (given image work long)
+
+  -- Kinds 10 to 13: likewise of the operation's variables.
+  pub variables-fail : 10 ≤ reply image work long .kind → reply image work long .kind ≤ 13
+      → Verdict image (reply image work long .operation) (some (record { kind = reply image work long .kind; a = reply image work long .a }))
+  variables-fail = variables-of (reply image work long) (given image work long)
+
+-- every rule holds
+pub record AllRight (image : List ℕ) : Type 0 where
+  pub good : Good image
+  pub fragments : Finds image none
+  pub variables : (i : ℕ) → i < countAt image operations → Verdict image i none
+  pub merge : AllMerge image
+
+-- operations that ran have no fault of variables
+ran-clear : (image : List ℕ) (work i used : ℕ) → Ran image work i used → (j : ℕ) → j < i → usageFault image j ≡ none
+ran-clear image work zero used ran j less = absurd (omega arith)
+ran-clear image work (suc i) used (ran-more {used = before} ran v e) j less =
+    elim (ℕ-discrete j i) [
+      | yes same ↦ rw same v
+      | no other ↦ ran-clear image work i before ran j (omega arith)
+    ]
+
+right-of : (image : List ℕ) (work long : ℕ) (r : Reply) → Given image work long r → r .kind ≡ 0 → AllRight image
+right-of image work long r (bad-header e) k = absurd (omega (arith, header-1 image e))
+right-of image work long r (over-limit h w) k = absurd (omega arith)
+right-of image work long r (short-scratch h w s) k = absurd (omega arith)
+right-of image work long r (bad-row h w e) k = absurd (omega (arith, row-4 image e))
+right-of image work long r (bad-fragments h w o e) k = absurd (omega (arith, fragments-5-9 image e))
+right-of image work long r (bad-variables {i} s w n o e) k = absurd (omega (arith, usage-10-13 image i e))
+right-of image work long r (a-conflict {c = d} s w n o v e) k = absurd (omega (arith, cause-number d))
+right-of image work long r (budget-spent s w n o v e) k = absurd (omega arith)
+right-of image work long r (passes {used} s w n) k = record {
+  good = sane-good s;
+  fragments = subst (Finds image) (s .fragments) (fragments-decided (sane-good s));
+  variables = λ i own. verdict-exactly image (sane-good s) i own none .0 (ran-clear image work (countAt image operations) used n i own);
+  merge = λ i own. ran-holds image work (countAt image operations) used s (le-refl _) n i own;
+}
+
+-- 0 is never said of a document that breaks a rule.
+pub passes-right : (image : List ℕ) (work long : ℕ) → reply image work long .kind ≡ 0 → AllRight image
+passes-right image work long k = right-of image work long (reply image work long) (given image work long) k
