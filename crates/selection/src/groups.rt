@@ -190,7 +190,13 @@ fn later_subgroup(image: &[u32], s: &[u32], arena: Arena, list: List, cursor: Cu
 }
 
 // The next subgroup of the group, if there is one, or the first of the next group.
-pub fn next_subgroup(image: &[u32], s: &[u32], arena: Arena, list: List, cursor: Cursor) -> Cursor
+pub(crate) fn next_subgroup(
+    image: &[u32],
+    s: &[u32],
+    arena: Arena,
+    list: List,
+    cursor: Cursor,
+) -> Cursor
     requires { ⌜ (cursor .group < list .end) × (cursor .first < list .end) ⌝ }
     ensures { λ r. ⌜ r ≡ nextSubgroup (now (image .entry)) (now (s .entry)) (arena .store) list cursor ⌝ }
 {
