@@ -4,10 +4,8 @@ use mathlib.Core.List.{List}
 use Rattle.lists.specs.Every.{total}
 use Rattle.tables.specs.Layout.{tableCount}
 use Rattle.tables.specs.Image.{wordAt, countAt}
-
 -- the largest budget
-abbrev pub mostWork : ℕ
-mostWork = 1000000
+pub use Rattle.selection.specs.Refining.{mostWork}
 
 -- the sum of the counts of all tables
 unfoldable pub rowsInAll : List ℕ → ℕ

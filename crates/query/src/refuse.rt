@@ -1,5 +1,6 @@
 // Kinds 1 to 3: the header, the budget, the scratch.
 use crate::needed::scratch_needed;
+use selection::walk::MOST_WORK;
 use tables::header::Header;
 use tables::header::check_header;
 ghost use mathlib.Core.Path.{_≡_};
@@ -7,8 +8,6 @@ ghost use mathlib.Core.Option.{none};
 ghost use Rattle.tables.specs.Header.{headerFault};
 ghost use Rattle.query.specs.Reply.{refused};
 ghost use Rattle.query.specs.Refusing.{refusedShows, sizesFault};
-
-const MOST_WORK: u32 = 1000000;
 
 // What the check refuses before it looks at a row: nothing, or a kind and the number that it shows.
 pub enum Refused {

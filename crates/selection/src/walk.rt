@@ -43,7 +43,7 @@ ghost use Rattle.selection.specs.Comparing.{kindOfClash, conflicted, Com
 const LEVELS: u32 = 502;
 
 // No budget is larger.
-const MOST_WORK: u32 = 1000000;
+pub const MOST_WORK: u32 = 1000000;
 
 // What has been met: the list, and whether it is new and paid, so that the walk goes deeper into it.
 pub struct Met {
