@@ -12,6 +12,7 @@ from image import ENUM, FIELD, INLINE, INPUT, INTERFACE, NONE, OBJECT, SCALAR, S
 
 PLANTS = ["none", "cycle", "unused fragment", "object variable", "repeated variable", "unused variable", "variable of another type",
           "shape", "name", "arguments", "unlike lists", "looks like a conflict"]
+TYPENAME = 10  # a field that every composite type has, of one leaf type and not null
 NULLISH, BOOLEAN, INT, FLOAT, STRING, ENUM_VALUE, VARIABLE, LIST, OBJECT_VALUE = range(9)
 
 
@@ -49,6 +50,8 @@ class Schema:
             for i in self.interfaces:
                 if rng.random() < 0.6:
                     self.fields[t].update(self.fields[i])
+        for t in self.composites:
+            self.fields[t][TYPENAME] = ((1, self.leaves[0]), {})
 
     def of(self, kind):
         return [t for t, k in enumerate(self.kinds) if k == kind]
@@ -123,7 +126,10 @@ class Document:
         pick = rng.random()
         if pick < 0.2 and holder + 1 < len(self.fragments):
             return Selection(SPREAD, rng.randrange(holder + 1, len(self.fragments)), directives=self.directives())
-        fields = {n: d for n, d in self.schema.fields[parent].items() if self.room > 0 and depth < 5 or core_of(d[0]) in self.schema.leaves}
+        fields = self.schema.fields[parent].items()
+        fields = {n: d for n, d in fields if n != TYPENAME and (self.room > 0 and depth < 5 or core_of(d[0]) in self.schema.leaves)}
+        if rng.random() < 0.02:
+            return self.field(parent, TYPENAME, depth, holder)
         if pick < 0.35 and self.room > 0 and depth < 6 or not fields:
             # At the bottom of things there is a type with a leaf, made one if need be.
             inner = rng.choice(self.schema.objects)
@@ -151,8 +157,8 @@ class Document:
         """A value for a place; a variable is named by the type that fits there, and so is one name of one type."""
         rng = self.rng
         if rng.random() < self.variable_rate:
-            name = 200 + len(self.variable_types)
-            return VARIABLE, self.variable_types.setdefault((place, rng.random() < 0.3), name)
+            fits = (place[0] & 2, place[1]) if default and rng.random() < 0.5 else place
+            return VARIABLE, self.variable_types.setdefault((fits, rng.random() < 0.3), 200 + len(self.variable_types))
         if rng.random() < 0.05:
             return NULLISH, 0
         if place[0] >= 2:

@@ -1,6 +1,6 @@
 """Plants one fault, or what only looks like one, in a random document."""
-from documents import (BOOLEAN, FIELD, INLINE, INT, LIST, OBJECT_VALUE, SPREAD, STRING, VARIABLE, Document, Selection, Set, below, core_of,
-                       declare, drop_unreached, reached)
+from documents import (BOOLEAN, ENUM_VALUE, FIELD, INLINE, INT, LIST, OBJECT_VALUE, SPREAD, STRING, TYPENAME, VARIABLE, Document, Selection, Set,
+                       below, core_of, declare, drop_unreached)
 
 EARLY = ["shape", "name", "arguments", "unlike lists", "looks like a conflict"]
 
@@ -65,8 +65,9 @@ def unlike_values(rng, what):
         keys = rng.sample([50, 51, 52], 2)
         pair = [(OBJECT_VALUE, [(keys[0], one), (keys[1], two)]), (OBJECT_VALUE, [(keys[1], two), (keys[0], one)])]
     else:
-        pair = rng.choice([[one, two], [(BOOLEAN, 0), (BOOLEAN, 1)], [(LIST, [one, two]), (LIST, [two, one])],
-                           [(OBJECT_VALUE, [(50, one)]), (OBJECT_VALUE, [(51, one)])], [(OBJECT_VALUE, [(50, one)]), (OBJECT_VALUE, [])]])
+        pair = rng.choice([[one, two], [(BOOLEAN, 0), (BOOLEAN, 1)], [(INT, 1), (STRING, 1)], [(STRING, 0), (STRING, 1)], [(ENUM_VALUE, 60), (ENUM_VALUE, 61)],
+                           [(LIST, [one, two]), (LIST, [two, one])], [(OBJECT_VALUE, [(50, one)]), (OBJECT_VALUE, [(51, one)])],
+                           [(OBJECT_VALUE, [(50, one)]), (OBJECT_VALUE, [])]])
     if rng.random() < 0.3:
         wrap = rng.choice([lambda v: (LIST, [v]), lambda v: (OBJECT_VALUE, [(53, v)])])
         pair = [wrap(v) for v in pair]
@@ -81,8 +82,10 @@ def definitions(document, what):
     name, refs, arguments = document.fresh(), [(0, core)] * 2, [[], []]
     names = [name, name]
     if what == "shape":
-        others = [(1, core), (2, (0, core)), (0, rng.choice([t for t in schema.leaves if t != core])), (0, rng.choice(schema.composites))]
-        refs = [(0, core), rng.choice(others)]
+        other = rng.choice([t for t in schema.leaves if t != core])
+        others = [[(0, core), (1, core)], [(0, core), (2, (0, core))], [(0, core), (0, other)], [(0, core), (0, rng.choice(schema.composites))],
+                  [(2, (0, core)), (2, (0, other))], [(2, (0, core)), (2, (1, core))], [(3, (0, core)), (2, (0, core))]]
+        refs = rng.choice(others)
         if rng.random() < 0.5:
             names[1] = document.fresh()
     elif what == "name":
@@ -90,9 +93,30 @@ def definitions(document, what):
     elif what in ("arguments", "unlike lists", "same"):
         place = (0, rng.choice(schema.inputs))
         arguments = [[(20, place, 0, v)] for v in unlike_values(rng, what)]
-        if what == "arguments" and rng.random() < 0.3:
-            arguments[rng.randint(0, 1)] = []
+        more, drop = (21, place, 0, (INT, 1)), rng.random()
+        if what == "arguments" and drop < 0.3:
+            arguments[rng.randint(0, 1)] = [] if drop < 0.2 else [more]
+        elif drop < 0.5:
+            arguments = [arguments[0] + [more], [more] + arguments[1]]
     return list(zip(names, refs, arguments))
+
+
+def with_typename(document, fields):
+    """The first of the two fields as the one that every type has, the second of its type."""
+    ref = (1, document.schema.leaves[0])
+    return [(TYPENAME, ref, []), (fields[1][0], ref, [])]
+
+
+def third(document, paths, parents, fields):
+    """One field more of that response name, in front or behind: one of the two again, or another one, on some parent."""
+    rng = document.rng
+    paths.append(rng.choice(paths))
+    parents.append(rng.choice(document.schema.objects + document.schema.interfaces))
+    name, ref, arguments = rng.choice([f for f in fields if f[0] != TYPENAME])
+    fields.append((rng.choice([name, document.fresh()]), ref, rng.choice([arguments, []])))
+    if rng.random() < 0.5:
+        for some in (paths, parents, fields):
+            some.insert(0, some.pop())
 
 
 def conflict(document, what):
@@ -100,19 +124,28 @@ def conflict(document, what):
     rng, schema = document.rng, document.schema
     top = rng.choice(document.operations)[0]
     looks = what == "looks like a conflict"
+    if looks and rng.random() < 0.1:
+        two_orders(document)
     if looks:
         what = rng.choice(["name", "arguments", "same"])
     response = document.fresh()
-    paths = path_of(document, 0.6 if looks else 0.2)
+    paths = list(path_of(document, 0.6 if looks else 0.2))
     parents = [rng.choice(schema.objects + schema.interfaces)] * 2
     if looks and what != "same":
         parents = rng.sample(schema.objects, 2)
     elif rng.random() < 0.5:
         parents[1] = rng.choice(schema.interfaces)
     rng.shuffle(parents)
+    fields = definitions(document, what)
+    if what == "name" and rng.random() < 0.2:
+        parents[0], fields = rng.choice(schema.composites), with_typename(document, fields)
+    if rng.random() < 0.3:
+        third(document, paths, parents, fields)
     sites = [site(document, top, path, parent, rng.choice([0, 0, 1, 2, 3])) for path, parent in zip(paths, parents)]
-    for selection_set, (name, ref, arguments) in zip(sites, definitions(document, what)):
-        schema.fields[selection_set.parent][name] = (ref, {n: (p, d) for n, p, d, _ in arguments})
+    for selection_set, (name, ref, arguments) in zip(sites, fields):
+        if name != TYPENAME:
+            known = schema.fields[selection_set.parent].get(name, (ref, {}))[1]
+            schema.fields[selection_set.parent][name] = (ref, {**known, **{n: (p, d) for n, p, d, _ in arguments}})
         core = core_of(ref)
         target = Set(core) if core in schema.composites else None
         if target is not None:
@@ -121,6 +154,22 @@ def conflict(document, what):
             schema.fields[inner].setdefault(9, ((0, schema.leaves[0]), {}))
             step(document, target, inner, 0).selections.append(Selection(FIELD, None, 9, 9, schema.fields[inner][9][0]))
         add(rng, selection_set, Selection(FIELD, target, response, name, ref, arguments))
+
+
+def two_orders(document):
+    """Two fields whose sets spread the same fragments, in one order and in the other."""
+    rng, core = document.rng, document.rng.choice(document.schema.objects)
+    last = len(document.fragments)
+    for _ in range(2):
+        made = Set(core)
+        made.selections.append(Selection(FIELD, None, document.fresh(), TYPENAME, document.schema.fields[core][TYPENAME][0]))
+        document.fragments.append([made, []])
+    top = rng.choice(document.operations)[0]
+    for order in ((last, last + 1), (last + 1, last)):
+        name = document.fresh()
+        field = Selection(FIELD, Set(core), name, name, (0, core))
+        field.target.selections += [Selection(SPREAD, f) for f in order]
+        add(rng, top, field)
 
 
 def cycle(document):
@@ -156,14 +205,23 @@ def a_variable(document, what):
     at = rng.randrange(len(operation[2]))
     name, ref, default = operation[2][at]
     if what == "object variable":
+        if rng.random() < 0.3:  # where only a list names it, no rule on usage asks for it
+            name = 297
+            operation[1].append((25, (2, ref), 0, (LIST, [(VARIABLE, name)])))
+            operation[2].append((name, ref, 0))
+            at = len(operation[2]) - 1
         operation[2][at] = (name, rng.choice([(0, t) for t in schema.composites] + [(2, (1, schema.objects[0]))]), 0)
     elif what == "repeated variable":
         operation[2].insert(rng.randint(at, len(operation[2])), (name, ref, default))
     elif what == "unused variable":
-        operation[2].insert(rng.randint(0, len(operation[2])), (298, ref, default))
+        used = {v[0] for v in operation[2]}
+        elsewhere = [v for o in document.operations for v in o[2] if v[0] not in used]
+        operation[2].insert(rng.randint(0, len(operation[2])), rng.choice(elsewhere) if elsewhere and rng.random() < 0.7 else (298, ref, default))
     else:
-        other = rng.choice([schema.place(), (ref[0] ^ 1, ref[1]), (2, ref)])
-        operation[2][at] = (name, other, rng.choice([0, default]))
+        inner = (ref[0], (ref[1][0] ^ 1, ref[1][1])) if ref[0] >= 2 else ref
+        item = ref[1] if ref[0] >= 2 else (2, ref)
+        other = rng.choice([schema.place(), (ref[0] ^ 1, ref[1]), inner, item, (0, rng.choice(schema.inputs))])
+        operation[2][at] = (name, other, rng.choice([0, 1, default]))
 
 
 def planted(rng, what):
@@ -179,6 +237,8 @@ def planted(rng, what):
         unused_fragment(document)
     elif what not in EARLY and what != "none":
         a_variable(document, what)
+    if rng.random() < 0.1:
+        a_variable(document, rng.choice(["object variable", "repeated variable", "unused variable", "variable of another type"]))
     if rng.random() < 0.5:
         rng.shuffle(document.operations)
     return document
