@@ -10,6 +10,7 @@ from pathlib import Path
 sys.path.insert(0, str(Path(__file__).resolve().parent.parent / "tools"))
 from image import ENUM, FIELD, INLINE, INPUT, INTERFACE, NONE, OBJECT, SCALAR, SPREAD, UNION, words  # noqa: E402
 
+sys.setrecursionlimit(10000)
 PLANTS = ["none", "cycle", "unused fragment", "object variable", "repeated variable", "unused variable", "variable of another type",
           "shape", "name", "arguments", "unlike lists", "looks like a conflict"]
 TYPENAME = 10  # a field that every composite type has, of one leaf type and not null
@@ -94,7 +95,7 @@ class Document:
         self.responses, self.next_name = {}, 100
         self.wild = rng.choice([0, 0, 0, 0.05, 0.3])
         self.variable_rate, self.directive_rate = rng.choice([0, 0.2, 0.5]), rng.choice([0, 0.1, 0.4])
-        self.room = rng.randint(4, 30)
+        self.room = rng.randint(4, 30) if rng.random() < 0.97 else 120
         self.fragments, self.variable_types = [], {}
         for _ in range(rng.choice([0, 1, 2, 3, 5])):
             self.fragments.append(None)

@@ -98,6 +98,9 @@ def definitions(document, what):
             arguments[rng.randint(0, 1)] = [] if drop < 0.2 else [more]
         elif drop < 0.5:
             arguments = [arguments[0] + [more], [more] + arguments[1]]
+        if drop > 0.9:  # over 20 arguments, which the crate looks up otherwise
+            many = [(n, place, 0, (INT, 1)) for n in range(300, 300 + rng.choice([18, 20, 40]))]
+            arguments = [some + rng.sample(many, len(many)) for some in arguments]
     return list(zip(names, refs, arguments))
 
 
@@ -143,9 +146,10 @@ def conflict(document, what):
         third(document, paths, parents, fields)
     sites = [site(document, top, path, parent, rng.choice([0, 0, 1, 2, 3])) for path, parent in zip(paths, parents)]
     for selection_set, (name, ref, arguments) in zip(sites, fields):
-        if name != TYPENAME:
-            known = schema.fields[selection_set.parent].get(name, (ref, {}))[1]
-            schema.fields[selection_set.parent][name] = (ref, {**known, **{n: (p, d) for n, p, d, _ in arguments}})
+        fields_there = schema.fields[selection_set.parent]
+        if fields_there.get(name, (ref,))[0] != ref:  # a field has one type
+            name = document.fresh()
+        fields_there.setdefault(name, (ref, {}))[1].update({n: (p, d) for n, p, d, _ in arguments})
         core = core_of(ref)
         target = Set(core) if core in schema.composites else None
         if target is not None:
@@ -170,6 +174,32 @@ def two_orders(document):
         field = Selection(FIELD, Set(core), name, name, (0, core))
         field.target.selections += [Selection(SPREAD, f) for f in order]
         add(rng, top, field)
+
+
+def near_a_limit(document):
+    """A chain of fragments, inline fragments in each other or fields in each other, about as long as is allowed."""
+    rng, some = document.rng, a_set_on_the_first_object(document)
+    core = document.schema.objects[0]
+    leaf = Selection(FIELD, None, TYPENAME, TYPENAME, document.schema.fields[core][TYPENAME][0])
+    length, how = rng.randint(-3, 2), rng.choice(["chain", "links", "nested"])
+    name = document.fresh()
+    for _ in range({"chain": 100, "links": 499, "nested": 128}[how] + length):
+        made = Set(core)
+        if how == "chain":
+            add(rng, some, Selection(SPREAD, len(document.fragments)))
+            document.fragments.append([made, []])
+        else:
+            add(rng, some, Selection(INLINE, made) if how == "links" else Selection(FIELD, made, name, name, (0, core)))
+        some = made
+    some.selections.append(leaf)
+
+
+def a_set_on_the_first_object(document):
+    """The set of an operation, or one below it on the type of the first object."""
+    top = document.rng.choice(document.operations)[0]
+    if top.parent != document.schema.objects[0]:
+        return step(document, top, document.schema.objects[0], 0)
+    return top
 
 
 def cycle(document):
@@ -229,6 +259,8 @@ def planted(rng, what):
     document = Document(rng)
     if what in EARLY:
         conflict(document, what)
+    elif what == "none" and rng.random() < 0.05:
+        near_a_limit(document)
     drop_unreached(document)
     declare(document)
     if what == "cycle":

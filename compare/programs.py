@@ -1,4 +1,5 @@
 """Runs the proved program `replay` and the crate's driver over many cases, and takes images apart."""
+import importlib
 import json
 import subprocess
 import sys
@@ -26,6 +27,19 @@ def need_replay():
 def need_driver():
     if not DRIVER.exists():
         missing("target/compare/crate_driver; `compare/crate/build.sh FOLDER` builds it from the crate's files")
+
+
+def from_folder(folder, *names):
+    """Modules of another folder. It has a module `image` of its own: all of this project's must have been read by then."""
+    for name in names:
+        if not (folder / (name + ".py")).exists():
+            missing("%s.py in %s" % (name, folder))
+    sys.modules.pop("image", None)
+    sys.path.insert(0, str(folder))
+    try:
+        return [importlib.import_module(name) for name in names]
+    except ImportError as error:
+        missing("a module that %s needs (%s)" % (folder, error))
 
 
 def tables(words):

@@ -32,12 +32,7 @@ def planted(seed):
 
 def texts(folder):
     """A maker of images from random GraphQL texts, by seed."""
-    sys.path.append(str(folder))
-    for name in ("image",):  # the folder has a module of that name too
-        sys.modules.pop(name, None)
-    sys.path.insert(0, str(folder))
-    import gen
-    import pack
+    gen, pack = programs.from_folder(folder, "gen", "pack")
     from graphql import build_schema, parse
 
     def made(seed):
