@@ -51,7 +51,7 @@ def image(gen, seed):
 def damaged(gen, seed):
     rng = random.Random(seed)
     if seed % 20 == 0:
-        return gen.noise_tables(rng).words()
+        return [word & programs.NONE for word in gen.noise_tables(rng).words()]
     if seed % 20 == 1:
         return [rng.choice([0, 1, 20, rng.randrange(64), rng.getrandbits(32)]) for _ in range(rng.randrange(60))]
     words = gen.ImageMaker(rng, small=seed % 3 != 0).words() if seed % 4 else planted(gen, seed)
