@@ -90,20 +90,20 @@ def below(selection_set):
 class Document:
     """Operations and fragments as [set, directives]; an operation also has variables (name, reference, default)."""
 
-    def __init__(self, rng):
+    def __init__(self, rng, large=False):
         self.rng, self.schema = rng, Schema(rng)
         self.responses, self.next_name = {}, 100
         self.wild = rng.choice([0, 0, 0, 0.05, 0.3])
         self.variable_rate, self.directive_rate = rng.choice([0, 0.2, 0.5]), rng.choice([0, 0.1, 0.4])
         self.room = rng.randint(4, 30) if rng.random() < 0.97 else 120
-        self.fragments, self.variable_types = [], {}
-        for _ in range(rng.choice([0, 1, 2, 3, 5])):
-            self.fragments.append(None)
+        if large:
+            self.room = rng.randint(200, 2000)
+        self.fragments, self.variable_types = [None] * (rng.randint(5, 25) if large else rng.choice([0, 1, 2, 3, 5])), {}
         for f in reversed(range(len(self.fragments))):
             self.fragments[f] = [self.set(rng.choice(self.schema.composites), 0, f), self.directives()]
         roots = rng.sample(self.schema.objects, 2)
         self.operations = []
-        for _ in range(rng.choice([1, 1, 1, 2, 3])):
+        for _ in range(rng.randint(1, 8) if large else rng.choice([1, 1, 1, 2, 3])):
             self.operations.append([self.set(rng.choice([roots[0], roots[0], roots[1]]), 0, -1), self.directives(), []])
 
     def fresh(self):

@@ -254,9 +254,9 @@ def a_variable(document, what):
         operation[2][at] = (name, other, rng.choice([0, 1, default]))
 
 
-def planted(rng, what):
+def planted(rng, what, large=False):
     """A document with one plant."""
-    document = Document(rng)
+    document = Document(rng, large)
     if what in EARLY:
         conflict(document, what)
     elif what == "none" and rng.random() < 0.05:

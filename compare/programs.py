@@ -55,6 +55,11 @@ def scratch_needed(words, work):
     return 8 * work + 16 * sum(words[2:20:2]) + 4096
 
 
+def most_work(words):
+    """The largest budget for which the scratch of replay will do."""
+    return (MOST_SCRATCH - 4096 - 16 * sum(words[2:20:2])) // 8
+
+
 def case(words, work, scratch=None):
     """A case as both programs read it. Without a right header any scratch will do."""
     if scratch is None:

@@ -1,10 +1,11 @@
 #!/usr/bin/env python3
 """Random documents by seed through the proved program and through the crate, compared as document 01's domain says.
 
-    compare/crate/compare.py [N] [FROM] [--texts M] [--oracle FOLDER]
+    compare/crate/compare.py [N] [FROM] [--large L] [--texts M] [--oracle FOLDER]
 
-N documents (default 100000) of compare/plants.py with the seeds FROM (default 0) to FROM + N - 1, and M documents (default 0) that the
-generator of FOLDER writes as GraphQL text and packs (needs graphql-core 3; default ../shared/oracle), with the seeds 0 to M - 1.
+N documents (default 100000) of compare/plants.py with the seeds FROM (default 0) to FROM + N - 1, L large ones (default 0) of
+some hundreds of selections, and M documents (default 0) that the generator of FOLDER (default ../shared/oracle) writes as GraphQL text and
+packs, which needs graphql-core 3, both with seeds from 0 on.
 Needs target/bin/replay (`rt check replay`) and target/compare/crate_driver (`compare/crate/build.sh`). Exit 0 where nothing differs.
 """
 import argparse
@@ -20,14 +21,15 @@ import programs  # noqa: E402
 from judge import COUNTED, judge  # noqa: E402
 
 WORK = 4000
+MOST = 1000000
 BATCH = 2000
 NAMES = {0: "nothing", 5: "cycle", 9: "unused fragment", 10: "no input type", 11: "repeated name", 12: "unused variable",
          13: "usage not allowed", 14: "shape", 15: "field name", 16: "arguments"}
 
 
-def planted(seed):
+def planted(seed, large=False):
     what = documents.PLANTS[seed % len(documents.PLANTS)]
-    return documents.pack(plants.planted(random.Random(seed), what))
+    return documents.pack(plants.planted(random.Random(seed), what, large))
 
 
 def texts(folder):
@@ -103,7 +105,7 @@ class Table:
         if verdict == ("differs", None):
             self.bad += 1
             self.first = self.first or "%s\n    the crate says: %s" % (
-                programs.vector(words, WORK, programs.scratch_needed(words, WORK), reply[:5]), said)
+                programs.vector(words, MOST, programs.scratch_needed(words, MOST), reply[:5]), said)
 
     def mark(self, words, reply):
         shape = Shape(words)
@@ -131,10 +133,10 @@ class Table:
             print("first disagreement, as a vector line:\n" + self.first)
 
 
-def compare(table, make, seeds):
-    for at in range(seeds.start, seeds.stop, BATCH):
-        images = [make(seed) for seed in range(at, min(at + BATCH, seeds.stop))]
-        cases = [programs.case(words, WORK) for words in images]
+def compare(table, make, seeds, batch=BATCH, work=WORK):
+    for at in range(seeds.start, seeds.stop, batch):
+        images = [make(seed) for seed in range(at, min(at + batch, seeds.stop))]
+        cases = [programs.case(words, min(work, programs.most_work(words))) for words in images]
         for words, reply, said in zip(images, programs.replies(cases), programs.diagnostics(cases)):
             table.note(words, reply, *said)
 
@@ -143,6 +145,7 @@ def main():
     parser = argparse.ArgumentParser(description=__doc__, formatter_class=argparse.RawDescriptionHelpFormatter)
     parser.add_argument("n", type=int, nargs="?", default=100000)
     parser.add_argument("start", type=int, nargs="?", default=0)
+    parser.add_argument("--large", type=int, default=0)
     parser.add_argument("--texts", type=int, default=0)
     parser.add_argument("--oracle", type=Path, default=programs.ROOT.parent / "shared/oracle")
     given = parser.parse_args()
@@ -151,6 +154,9 @@ def main():
     table = Table()
     print("seeds %d to %d of compare/plants.py" % (given.start, given.start + given.n - 1), flush=True)
     compare(table, planted, range(given.start, given.start + given.n))
+    if given.large:
+        print("and the seeds 0 to %d of large ones" % (given.large - 1), flush=True)
+        compare(table, lambda seed: planted(seed, True), range(given.large), 200, 20000)
     if given.texts:
         print("and the seeds 0 to %d of random GraphQL texts" % (given.texts - 1))
         compare(table, texts(given.oracle), range(given.texts))
