@@ -136,7 +136,10 @@ class Document:
             inner = rng.choice(self.schema.objects)
             if self.room <= 0:
                 self.schema.fields[inner].setdefault(9, ((0, self.schema.leaves[0]), {}))
-            return Selection(INLINE, self.set(inner if self.room <= 0 else rng.choice(self.schema.composites), depth + 1, holder), directives=self.directives())
+                made = self.set(inner, depth + 1, holder)
+            else:
+                made = self.set(rng.choice(self.schema.composites), depth + 1, holder)
+            return Selection(INLINE, made, directives=self.directives())
         return self.field(parent, rng.choice(sorted(fields)), depth, holder)
 
     def field(self, parent, name, depth, holder):

@@ -65,9 +65,9 @@ def unlike_values(rng, what):
         keys = rng.sample([50, 51, 52], 2)
         pair = [(OBJECT_VALUE, [(keys[0], one), (keys[1], two)]), (OBJECT_VALUE, [(keys[1], two), (keys[0], one)])]
     else:
-        pair = rng.choice([[one, two], [(BOOLEAN, 0), (BOOLEAN, 1)], [(INT, 1), (STRING, 1)], [(STRING, 0), (STRING, 1)], [(ENUM_VALUE, 60), (ENUM_VALUE, 61)],
-                           [(LIST, [one, two]), (LIST, [two, one])], [(OBJECT_VALUE, [(50, one)]), (OBJECT_VALUE, [(51, one)])],
-                           [(OBJECT_VALUE, [(50, one)]), (OBJECT_VALUE, [])]])
+        pair = rng.choice([[one, two], [(BOOLEAN, 0), (BOOLEAN, 1)], [(INT, 1), (STRING, 1)], [(STRING, 0), (STRING, 1)],
+                           [(ENUM_VALUE, 60), (ENUM_VALUE, 61)], [(LIST, [one, two]), (LIST, [two, one])],
+                           [(OBJECT_VALUE, [(50, one)]), (OBJECT_VALUE, [(51, one)])], [(OBJECT_VALUE, [(50, one)]), (OBJECT_VALUE, [])]])
     if rng.random() < 0.3:
         wrap = rng.choice([lambda v: (LIST, [v]), lambda v: (OBJECT_VALUE, [(53, v)])])
         pair = [wrap(v) for v in pair]

@@ -12,8 +12,9 @@ from pathlib import Path
 
 sys.path.insert(0, str(Path(__file__).resolve().parent.parent))
 import programs  # noqa: E402
-from written import (ANY, INTEGER, LEAF, QUERY, TEXT, argument, chain, document, down, field, inlines, integers, nested, spread,  # noqa: E402
-                     variable)
+import limits  # noqa: E402
+from image import words as image_words  # noqa: E402
+from written import INTEGER, LEAF, QUERY, TEXT, argument, chain, document, down, field, inlines, integers, nested, spread, variable  # noqa: E402
 
 F = field(1)
 WORK = 20000
@@ -64,6 +65,9 @@ CASES = [
     ("two unused variables", document([[F]], variables=[(90, LEAF, 0), (91, LEAF, 0)]), "12 0 0 0", "12 0 0 0, 12 0 1 0", "12 0 0 0, 12 0 1 0"),
     ("a repeated name, unused", document([[F]], variables=[(90, LEAF, 0), (90, LEAF, 0)]), "11 0 1 0", "11 0 1 0, 12 0 1 0", "11 0 1 0, 12 0 1 0"),
     ("a composite field without a set", document([[field(2, ref=(0, QUERY))]]), "0 0 0 0", "-", "MissingSubselection"),
+    ("a field with 65 arguments", image_words(limits.arguments(65)), "4 0 5 0", "-", "-"),
+    ("65 levels of values", image_words(limits.levels(65)), "4 0 7 63", "-", "-"),
+    ("an object with 257 members", image_words(limits.members(257)), "4 0 7 0", "-", "-"),
     ("three fields, two conflicts", document([[field(1, 5), field(2, 5), field(3, 5)]]), "15 0 0 1", "15 0 0 1, 15 0 0 2", "15 0 0 1, 15 0 0 2"),
 ]
 

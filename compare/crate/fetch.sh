@@ -6,8 +6,8 @@ set -eu
 cd "$(dirname "$0")/../.."
 suite=trixie
 here=$PWD/target/compare
-packages="ahash allocator-api2 cfg-if equivalent getrandom hashbrown indexmap libc once-cell proc-macro2 quote serde serde-derive syn thiserror thiserror-impl
-    typed-arena unicode-ident version-check zerocopy zerocopy-derive"
+packages="ahash allocator-api2 cfg-if equivalent getrandom hashbrown indexmap libc once-cell proc-macro2 quote serde serde-derive syn
+    thiserror thiserror-impl typed-arena unicode-ident version-check zerocopy zerocopy-derive"
 [ ! -e "$here/vendor/complete" ] || exit 0
 for tool in apt-get dpkg-deb; do
     command -v "$tool" >/dev/null || { echo "missing: $tool (these sources come from Debian's packages)" >&2; exit 2; }
@@ -27,7 +27,8 @@ apt_here() {
 apt_here update >"$here/fetch.log" 2>&1 || { tail -n 5 "$here/fetch.log" >&2; echo "missing: Debian's archive (suite $suite)" >&2; exit 2; }
 cd "$here/apt/debs"
 for p in $packages; do
-    [ -n "$(find . -name "librust-$p-dev_*" 2>/dev/null)" ] || apt_here download "librust-$p-dev" >>"$here/fetch.log" 2>&1 || { echo "missing: the package librust-$p-dev of $suite" >&2; exit 2; }
+    [ -z "$(find . -name "librust-$p-dev_*")" ] || continue
+    apt_here download "librust-$p-dev" >>"$here/fetch.log" 2>&1 || { echo "missing: the package librust-$p-dev of $suite" >&2; exit 2; }
 done
 for d in *.deb; do
     dpkg-deb -x "$d" "$here/vendor"

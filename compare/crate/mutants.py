@@ -31,19 +31,29 @@ FIRST = "cycle: lowest that reaches one"
 ELSEWHERE = ["chain", "links", "leaf field no link", "empty field sets nest", "inlines nest", "8 before 7", "two charges", "budget", "charge after",
              "empty sets met", "sets met by fields within"]
 OWN = {
-    "own: 12 takes names of all operations": ("first, count = query.operations[operation][:2]\n    return range(first, first + count)",
-                                              "return range(0, sum(o[1] for o in query.operations[:operation + 1]))"),
+    "own: 12 takes names of all operations": (
+        "first, count = query.operations[operation][:2]\n    return range(first, first + count)",
+        "return range(0, sum(o[1] for o in query.operations[:operation + 1]))"),
     "own: shape looks at the outer wrapper only": ("        left_ref, right_ref = left_child, right_child\n", "        return True\n"),
-    "own: only two fields of a group": ("for other in group[1:]:\n                if not same_shape", "for other in group[1:2]:\n                if not same_shape"),
-    "own: only the first subgroup": ("for group in subgroups_by_parent(self.query, name_group):", "for group in subgroups_by_parent(self.query, name_group)[:1]:"),
-    "own: the first field's set alone goes down": ("        sets = own_sets(self.query, fields)\n        if sets:", "        sets = own_sets(self.query, fields)[:1]\n        if sets:"),
-    "own: only the first operation": ("for operation in range(len(query.operations)):\n        fault", "for operation in range(min(1, len(query.operations))):\n        fault"),
-    "own: inlines of another type are passed over": ("            elif row[0] == INLINE:\n                queue.append(row[6])",
-                                                     "            elif row[0] == INLINE:\n                if query.set_parent[row[6]] == query.set_parent[queue[at]]:\n                    queue.append(row[6])"),
-    "own: fragments of fragments are passed over": ("            elif row[6] not in seen_fragments:", "            elif row[6] not in seen_fragments and queue[at] < len(query.operations):"),
+    "own: only two fields of a group": (
+        "for other in group[1:]:\n                if not same_shape", "for other in group[1:2]:\n                if not same_shape"),
+    "own: only the first subgroup": (
+        "for group in subgroups_by_parent(self.query, name_group):", "for group in subgroups_by_parent(self.query, name_group)[:1]:"),
+    "own: the first field's set alone goes down": (
+        "        sets = own_sets(self.query, fields)\n        if sets:", "        sets = own_sets(self.query, fields)[:1]\n        if sets:"),
+    "own: only the first operation": (
+        "for operation in range(len(query.operations)):\n        fault", "for operation in range(min(1, len(query.operations))):\n        fault"),
+    "own: inlines of another type are passed over": (
+        "                queue.append(row[6])\n", "                queue += [row[6]] if query.set_parent[row[6]] == query.set_parent[queue[at]] else []\n"),
+    "own: fragments of fragments are passed over": (
+        "            elif row[6] not in seen_fragments:", "            elif row[6] not in seen_fragments and queue[at] < len(query.operations):"),
     "own: parents compared by the set of the operation": ("return self.set_parent[self.standing[selection]]", "return self.set_parent[0]"),
-    "own: atoms of enums and strings ignored": ("return left_first == right_first\n\n\ndef same_arguments", "return left_first == right_first or left_kind in (V_ENUM, V_STRING)\n\n\ndef same_arguments"),
-    "own: 9 names the highest": ("for f in range(len(query.fragments)):\n        if query.fragment_set(f)", "for f in reversed(range(0, len(query.fragments), 2)):\n        if query.fragment_set(f)"),
+    "own: atoms of enums and strings ignored": (
+        "return left_first == right_first\n\n\ndef same_arguments",
+        "return left_first == right_first or left_kind in (V_ENUM, V_STRING)\n\n\ndef same_arguments"),
+    "own: 9 names the highest": (
+        "for f in range(len(query.fragments)):\n        if query.fragment_set(f)",
+        "for f in reversed(range(0, len(query.fragments), 2)):\n        if query.fragment_set(f)"),
 }
 
 
@@ -54,10 +64,10 @@ def planted(seed):
 
 def unseen_by_the_crate(name):
     """Mistakes that name another true cause, or only charge otherwise: what they say is among the crate's diagnostics."""
-    return any(name.startswith(part) for part in (
-        "unreached: spread", "unreached before", "11 and 10", "13 before 12", "13: highest row", "used 0", "10 to 13 of all", "known lists by content", "known lists never",
-        "known lists free", "known lists shared between operations", "fields below", "groups first", "all names", "parent pass first", "expand: depth",
-        "values: tail of lists", "b is the", "pair in row", "abstract fields also", "expand: fragments each"))
+    return name.startswith((
+        "unreached: spread", "unreached before", "11 and 10", "13 before 12", "13: highest row", "used 0", "10 to 13 of all",
+        "known lists by content", "known lists never", "known lists free", "fields below", "groups first", "all names", "parent pass first",
+        "abstract fields also", "expand: fragments each"))
 
 
 def mistakes(folder):
