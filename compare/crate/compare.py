@@ -79,6 +79,11 @@ class Shape:
         return any(self.image["values"][a][0] == 6 for first, count in rows for a in range(first, first + count))
 
 
+def told(said, classes):
+    """What the crate says, operations left out and equal fields as one."""
+    return {(k, a, b) if k < 14 else (k, classes[a], classes[b]) for k, _, a, b in said}
+
+
 class Table:
     def __init__(self):
         self.kinds, self.said, self.outside, self.whole = (collections.Counter() for _ in range(4))
@@ -94,6 +99,9 @@ class Table:
         if whole is None:
             self.whole["not run: the document agrees with no schema of the shim's"] += 1
             return
+        if not any(k == 5 for k, _, _, _ in said):
+            self.marks["documents without a cycle on which both ways of the crate say %s" % (
+                "the same" if told(said, classes) == told(whole, classes) else "DIFFERENT THINGS")] += 1
         verdict = judge(words, reply, whole, whole_others, classes, with_operation=False)
         if reply[0] == 5 and verdict == ("differs", None):
             by = "another fragment of a cycle" if any(k == 5 for k, _, _, _ in whole) else "none: no operation reaches it"

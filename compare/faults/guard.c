@@ -102,6 +102,12 @@ static int lent_call(const uint32_t *c)
            marked(reply_room, reply) && kept(scratch, c[2], needed(c + 8, c[7], c[0]));
 }
 
+/* Whether the door for bytes must give a case the same answer: it fits, and so does the scratch inside. */
+static int fits_the_door(const uint32_t *c)
+{
+    return c[2] != 3 && 4 * (size_t)c[7] <= PONYBLUSTER_MOST_BYTES && needed(c + 8, c[7], c[0]) <= DOOR_SCRATCH;
+}
+
 /* The door for bytes: image and reply. `less` bytes are left off the end, so that the length is no multiple of 4. */
 static int byte_call(const uint32_t *c, size_t less)
 {
@@ -113,7 +119,7 @@ static int byte_call(const uint32_t *c, size_t less)
     mprotect(image_room.data, image_room.size, PROT_READ | PROT_WRITE);
     struct ponybluster_reply r = ponybluster_read(reply.at);
     int refused = bytes % 4 != 0 || bytes > PONYBLUSTER_MOST_BYTES;
-    int same = refused ? r.kind == 18 && r.a == bytes : c[2] == 3 || needed(c + 8, c[7], c[0]) > DOOR_SCRATCH || memcmp(reply.at, c + 2, 20) == 0;
+    int same = refused ? r.kind == 18 && r.a == bytes : !fits_the_door(c) || memcmp(reply.at, c + 2, 20) == 0;
     return returned == 1 && same && marked(reply_room, reply);
 }
 
@@ -142,15 +148,20 @@ static struct memory memory(void)
     return m;
 }
 
-/* So many calls in one process, one case after the other; the same answers each time, and no more memory than after two rounds. */
+/* So many calls in one process, one round over the cases with words, the next with bytes, and so on; the same answers each time, and no more
+   memory than after two rounds. */
 static unsigned long many(uint32_t **cases, unsigned long count, unsigned long calls)
 {
     static uint32_t scratch[1 << 21];
     unsigned long wrong = 0;
     struct memory first = memory(), last;
     for (unsigned long i = 0; i < calls; i++) {
-        uint32_t *c = cases[i % count], reply[5];
-        wrong += check_query_lent(c + 8, c[7], c[0], scratch, c[1], reply, 5) != 1 || memcmp(reply, c + 2, 20) != 0;
+        uint32_t *c = cases[i % count], reply[5], returned;
+        if (i / count % 2 == 1 && fits_the_door(c))
+            returned = check_query((uint8_t *)(c + 8), 4 * (size_t)c[7], c[0], (uint8_t *)reply, 20);
+        else
+            returned = check_query_lent(c + 8, c[7], c[0], scratch, c[1], reply, 5);
+        wrong += returned != 1 || memcmp(reply, c + 2, 20) != 0;
         if (i == 2 * count)
             first = memory();
     }
