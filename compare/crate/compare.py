@@ -1,11 +1,11 @@
 #!/usr/bin/env python3
 """Random documents by seed through the proved program and through the crate, compared as document 01's domain says.
 
-    compare/crate/compare.py [N] [FROM] [--large L] [--texts M] [--oracle FOLDER]
+    compare/crate/compare.py [N] [FROM] [--large L] [--images K] [--texts M] [--oracle FOLDER]
 
-N documents (default 100000) of compare/plants.py with the seeds FROM (default 0) to FROM + N - 1, L large ones (default 0) of
-some hundreds of selections, and M documents (default 0) that the generator of FOLDER (default ../shared/oracle) writes as GraphQL text and
-packs, which needs graphql-core 3, both with seeds from 0 on.
+N documents (default 100000) of compare/plants.py with the seeds FROM (default 0) to FROM + N - 1; with seeds from 0 on L large ones (default
+0) of some hundreds of selections, K images that the generator of FOLDER (default ../shared/oracle) makes without a row fault, odd ones that
+no document gives among them, and M documents that it writes as GraphQL text and packs, which needs graphql-core 3.
 Needs target/bin/replay (`rt check replay`) and target/compare/crate_driver (`compare/crate/build.sh`). Exit 0 where nothing differs.
 """
 import argparse
@@ -30,6 +30,12 @@ NAMES = {0: "nothing", 5: "cycle", 9: "unused fragment", 10: "no input type", 11
 def planted(seed, large=False):
     what = documents.PLANTS[seed % len(documents.PLANTS)]
     return documents.pack(plants.planted(random.Random(seed), what, large))
+
+
+def images(folder):
+    """A maker of images by construction, by seed."""
+    (gen,) = programs.from_folder(folder, "gen")
+    return lambda seed: gen.ImageMaker(random.Random(seed), small=seed % 2 == 0, variables=seed % 3 != 0, size=90 if seed % 10 == 1 else None).words()
 
 
 def texts(folder):
@@ -154,20 +160,23 @@ def main():
     parser.add_argument("n", type=int, nargs="?", default=100000)
     parser.add_argument("start", type=int, nargs="?", default=0)
     parser.add_argument("--large", type=int, default=0)
+    parser.add_argument("--images", type=int, default=0)
     parser.add_argument("--texts", type=int, default=0)
     parser.add_argument("--oracle", type=Path, default=programs.ROOT.parent / "shared/oracle")
     given = parser.parse_args()
     programs.need_replay()
     programs.need_driver()
     table = Table()
-    print("seeds %d to %d of compare/plants.py" % (given.start, given.start + given.n - 1), flush=True)
-    compare(table, planted, range(given.start, given.start + given.n))
-    if given.large:
-        print("and the seeds 0 to %d of large ones" % (given.large - 1), flush=True)
-        compare(table, lambda seed: planted(seed, True), range(given.large), 200, 20000)
+    parts = [("documents of compare/plants.py", planted, range(given.start, given.start + given.n), {}),
+             ("large documents", lambda seed: planted(seed, True), range(given.large), {"batch": 200, "work": 20000})]
+    if given.images:
+        parts.append(("images by construction", images(given.oracle), range(given.images), {}))
     if given.texts:
-        print("and the seeds 0 to %d of random GraphQL texts" % (given.texts - 1))
-        compare(table, texts(given.oracle), range(given.texts))
+        parts.append(("random GraphQL texts", texts(given.oracle), range(given.texts), {}))
+    for name, make, seeds, how in parts:
+        if seeds:
+            print("%s, seeds %d to %d" % (name, seeds[0], seeds[-1]), flush=True)
+            compare(table, make, seeds, **how)
     table.show()
     return 1 if table.bad else 0
 
