@@ -19,27 +19,29 @@ from judge import COUNTED, is_among, judge  # noqa: E402
 SAMPLE = Path(__file__).resolve().parent / "sample.txt"
 WORK = 1000
 SEEDS, OF_A_KIND, MOST_WORDS = 12000, 50, 200
+# The documents that first show each mistake of compare/crate/mutants.py beside the crate, whatever their size.
+TELLING = [0, 4, 6, 7, 8, 9, 12, 23, 31, 33, 34, 39, 44, 62, 81, 91, 116, 118, 145, 155, 192, 234, 281, 359, 369, 390, 427, 476, 577]
 
 
 def documents():
-    """Small planted documents by seed."""
+    """Planted documents by seed: those that tell, and small ones."""
     import documents
     import plants
 
     for seed in range(SEEDS):
         what = documents.PLANTS[seed % len(documents.PLANTS)]
         words = documents.pack(plants.planted(random.Random(seed), what))
-        if len(words) <= MOST_WORDS:
-            yield words
+        if seed in TELLING or len(words) <= MOST_WORDS:
+            yield seed, words
 
 
 def write():
     programs.need_driver()
-    images = list(documents())
+    seeds, images = zip(*documents())
     cases = [programs.case(words, WORK) for words in images]
     kept, kinds = [], collections.Counter()
-    for words, reply, (said, others, _, _, classes) in zip(images, programs.replies(cases), programs.diagnostics(cases)):
-        if judge(words, reply, said, others, classes) is None and kinds[reply[0]] < OF_A_KIND:
+    for seed, words, reply, (said, others, _, _, classes) in zip(seeds, images, programs.replies(cases), programs.diagnostics(cases)):
+        if judge(words, reply, said, others, classes) is None and (seed in TELLING or kinds[reply[0]] < OF_A_KIND):
             kinds[reply[0]] += 1
             parts = [".".join(map(str, one)) for one in said if one[0] in COUNTED] or ["-"]
             same = ["%d=%d" % (r, c) for r, c in enumerate(classes) if c != programs.NONE and c != r]
