@@ -3,7 +3,6 @@
 A document is made as a tree that agrees with its schema and is then packed. Without a plant it is mostly right: a response name stands for
 one field with one list of arguments. A plant adds one fault, or what only looks like one.
 """
-import random
 import sys
 from pathlib import Path
 

@@ -1,4 +1,4 @@
-//! SHIM for src/name.rs: a GraphQL name with its place. Equality, order and hash are those of the text alone.
+//! SHIM for src/name.rs: a GraphQL name with its place. Equality and hash are those of the text alone.
 use crate::parser::SourceSpan;
 use std::borrow::Borrow;
 use std::fmt;
@@ -54,11 +54,6 @@ impl Borrow<str> for Name {
         self.as_str()
     }
 }
-impl AsRef<str> for Name {
-    fn as_ref(&self) -> &str {
-        self.as_str()
-    }
-}
 impl PartialEq for Name {
     fn eq(&self, other: &Self) -> bool {
         self.as_str() == other.as_str()
@@ -73,16 +68,6 @@ impl PartialEq<str> for Name {
 impl PartialEq<&'_ str> for Name {
     fn eq(&self, other: &&str) -> bool {
         self.as_str() == *other
-    }
-}
-impl PartialOrd for Name {
-    fn partial_cmp(&self, other: &Self) -> Option<std::cmp::Ordering> {
-        Some(self.cmp(other))
-    }
-}
-impl Ord for Name {
-    fn cmp(&self, other: &Self) -> std::cmp::Ordering {
-        self.as_str().cmp(other.as_str())
     }
 }
 impl Hash for Name {

@@ -91,8 +91,3 @@ impl<T> From<T> for Node<T> {
         Self::new(node)
     }
 }
-impl<T: Default> Default for Node<T> {
-    fn default() -> Self {
-        Self::new(T::default())
-    }
-}
