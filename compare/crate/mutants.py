@@ -6,7 +6,8 @@
 FOLDER (default ../shared/oracle) has the implementation check.py and mutants.py, a list of mistakes that look right; those in kinds 5 to 16
 are tried here, and some of this file's own. Two numbers are printed for each: the first seed below N (default 6000) of compare/plants.py
 whose document shows it beside the crate, compared as compare/crate/compare.py does, and the first that shows it beside the proved program's
-reply. A mistake in charges, or in which of several true causes is named first, cannot show beside the crate: those are marked.
+reply. A mistake in charges, in which of several true causes is named first, or that the crate makes too, cannot show beside the crate. One
+that makes the implementation fail or run on is found.
 Needs target/bin/replay (`rt check replay`) and target/compare/crate_driver (`compare/crate/build.sh`). Exit 1 where one is not found.
 """
 import argparse
@@ -27,9 +28,9 @@ WORK = 4000
 LOOK_RIGHT = ["neighbours in shape groups", "neighbours in parent groups", "abstract fields a group of their own", "cycle: lowest that reaches one",
               "known lists shared between passes"]
 FIRST = "cycle: lowest that reaches one"
-# limits are run in differences.py, budgets and unseen sets in compare/oracle
+# limits are run in differences.py, budgets and unseen sets in compare/oracle; the last two fail in Python, and stand below as OWN
 ELSEWHERE = ["chain", "links", "leaf field no link", "empty field sets nest", "inlines nest", "8 before 7", "two charges", "budget", "charge after",
-             "empty sets met", "sets met by fields within"]
+             "empty sets met", "sets met by fields within", "values: tail of lists", "known lists shared between operations"]
 OWN = {
     "own: 12 takes names of all operations": (
         "first, count = query.operations[operation][:2]\n    return range(first, first + count)",
@@ -51,6 +52,14 @@ OWN = {
     "own: atoms of enums and strings ignored": (
         "return left_first == right_first\n\n\ndef same_arguments",
         "return left_first == right_first or left_kind in (V_ENUM, V_STRING)\n\n\ndef same_arguments"),
+    "own: lists compared up to the shorter one": (
+        "left_count != right_count:\n        return False\n    if left_kind == V_LIST:\n        return all(same_value(query, left_first + i, right_first + i)"
+        " for i in range(left_count))",
+        "left_kind != V_LIST and left_count != right_count:\n        return False\n    if left_kind == V_LIST:\n        return all(same_value(query, left_first + i,"
+        " right_first + i) for i in range(min(left_count, right_count)))"),
+    "own: known lists kept over operations": (
+        "                self.known = set()\n",
+        "                self.known = self.__dict__.setdefault('kept', {}).setdefault(compare_groups.__name__, set())\n"),
     "own: 9 names the highest": (
         "for f in range(len(query.fragments)):\n        if query.fragment_set(f)",
         "for f in reversed(range(0, len(query.fragments), 2)):\n        if query.fragment_set(f)"),
@@ -63,11 +72,11 @@ def planted(seed):
 
 
 def unseen_by_the_crate(name):
-    """Mistakes that name another true cause, or only charge otherwise: what they say is among the crate's diagnostics."""
+    """Mistakes that name another true cause, only charge otherwise, or are the crate's own: what they say is among its diagnostics."""
     return name.startswith((
         "unreached: spread", "unreached before", "11 and 10", "13 before 12", "13: highest row", "used 0", "10 to 13 of all",
         "known lists by content", "known lists never", "known lists free", "fields below", "groups first", "all names", "parent pass first",
-        "abstract fields also", "expand: fragments each"))
+        "abstract fields also", "expand: fragments each", "own: lists compared up to", "own: known lists kept"))
 
 
 def mistakes(folder):
