@@ -1,9 +1,13 @@
 """Runs the proved program `replay` and the crate's driver over many cases, and takes images apart."""
 import importlib
 import json
+import resource
 import subprocess
 import sys
 from pathlib import Path
+
+# A case that grows without end must end its own run, and not burden the machine.
+resource.setrlimit(resource.RLIMIT_AS, (8 << 30, 8 << 30))
 
 ROOT = Path(__file__).resolve().parent.parent
 sys.path.insert(0, str(ROOT / "tools"))

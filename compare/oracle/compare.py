@@ -56,13 +56,20 @@ def damaged(gen, seed):
         return [rng.choice([0, 1, 20, rng.randrange(64), rng.getrandbits(32)]) for _ in range(rng.randrange(60))]
     words = gen.ImageMaker(rng, small=seed % 3 != 0).words() if seed % 4 else planted(gen, seed)
     for _ in range(rng.choice([1, 1, 1, 2, 3])):
-        if len(words) < 20 or words[1] != len(words):
+        if not has_its_rows(words):  # an earlier damage broke the header
             return words
-        try:
-            words = gen.damage_word(rng, words) if rng.random() < 0.7 else gen.damage_rows(rng, words)
-        except (IndexError, AssertionError):  # a header that an earlier damage broke
-            return words
+        words = gen.damage_word(rng, words) if rng.random() < 0.7 else gen.damage_rows(rng, words)
     return words
+
+
+def has_its_rows(words):
+    """Whether the header's counts and offsets are those of so many words."""
+    at = 20
+    for table, width in enumerate(programs.WIDTHS):
+        if len(words) < 20 or words[3 + 2 * table] != at:
+            return False
+        at += words[2 + 2 * table] * width
+    return at == len(words)
 
 
 STREAMS = {"documents": planted, "images": image, "damaged": damaged, "deep": deep, "lookups": None}
