@@ -7,7 +7,9 @@ import sys
 from pathlib import Path
 
 # A case that grows without end must end its own run, and not burden the machine.
-resource.setrlimit(resource.RLIMIT_AS, (8 << 30, 8 << 30))
+MOST_BYTES = 8 << 30
+_, most = resource.getrlimit(resource.RLIMIT_AS)
+resource.setrlimit(resource.RLIMIT_AS, (MOST_BYTES if most == resource.RLIM_INFINITY else min(MOST_BYTES, most), most))
 
 ROOT = Path(__file__).resolve().parent.parent
 sys.path.insert(0, str(ROOT / "tools"))
