@@ -18,7 +18,7 @@ sys.path.insert(0, str(Path(__file__).resolve().parent.parent))
 import documents  # noqa: E402
 import plants  # noqa: E402
 import programs  # noqa: E402
-from judge import COUNTED, judge  # noqa: E402
+from judge import COUNTED, is_among, judge  # noqa: E402
 
 WORK = 4000
 MOST = 1000000
@@ -95,13 +95,16 @@ class Table:
         self.kinds, self.said, self.outside, self.whole = (collections.Counter() for _ in range(4))
         self.marks, self.bad, self.documents, self.first = collections.Counter(), 0, 0, None
 
-    def note(self, words, reply, said, others, whole, whole_others, classes):
+    def note(self, words, reply, said, others, whole, whole_others, classes, first):
         self.documents += 1
         self.kinds[reply[0]] += 1
         self.said.update({k for k, _, _, _ in said if k in COUNTED})
         self.mark(words, reply)
         verdict = judge(words, reply, said, others, classes)
         self.tell(verdict, self.outside, words, reply, said)
+        if reply[0] in (14, 15, 16) and verdict is None:
+            same = is_among(reply, [one for one in first if one[1] == reply[1]], classes)
+            self.marks["conflicts that are %s the crate lists in that operation" % ("the first that" if same else "not the first that")] += 1
         if whole is None:
             self.whole["not run: the document agrees with no schema of the shim's"] += 1
             return

@@ -110,7 +110,7 @@ def answer(module, words):
 def hunt(module, known):
     """The first seeds that show the mutant beside the crate and beside the reply; None where there is none."""
     by_crate = by_reply = None
-    for seed, (words, reply, (said, others, _, _, classes)) in enumerate(known):
+    for seed, (words, reply, (said, others, _, _, classes, _)) in enumerate(known):
         now = answer(module, words)
         if now == reply[:5]:
             continue

@@ -40,7 +40,7 @@ def write():
     seeds, images = zip(*documents())
     cases = [programs.case(words, WORK) for words in images]
     kept, kinds = [], collections.Counter()
-    for seed, words, reply, (said, others, _, _, classes) in zip(seeds, images, programs.replies(cases), programs.diagnostics(cases)):
+    for seed, words, reply, (said, others, _, _, classes, _) in zip(seeds, images, programs.replies(cases), programs.diagnostics(cases)):
         if judge(words, reply, said, others, classes) is None and (seed in TELLING or kinds[reply[0]] < OF_A_KIND):
             kinds[reply[0]] += 1
             parts = [".".join(map(str, one)) for one in said if one[0] in COUNTED] or ["-"]

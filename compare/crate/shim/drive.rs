@@ -5,13 +5,15 @@ use crate::image::{Read, NONE, PLACES};
 use crate::validation::diagnostics::{entries, Entry};
 use crate::validation::{fragment, selection, variable, DiagnosticList};
 use crate::{Name, Node};
-use std::collections::{BTreeSet, HashSet};
+use std::collections::{BTreeMap, BTreeSet, HashSet};
 
-/// Diagnostics that a kind stands for, as (kind, operation, a, b), and the crate's words for all others.
+/// Diagnostics that a kind stands for, as (kind, operation, a, b), and the crate's words for all others; and the first conflict of each operation,
+/// in the order in which the crate lists them.
 #[derive(Default)]
 pub struct Said {
     pub kinds: BTreeSet<[u32; 4]>,
     pub others: BTreeSet<&'static str>,
+    pub first: BTreeMap<u32, [u32; 4]>,
 }
 
 impl Said {
@@ -21,6 +23,9 @@ impl Said {
                 self.others.insert(word);
             } else {
                 self.kinds.insert([kind, operation as u32, a, b]);
+            }
+            if kind >= 14 {
+                self.first.entry(operation as u32).or_insert([kind, operation as u32, a, b]);
             }
         }
         *from = list.len();

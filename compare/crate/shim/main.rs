@@ -4,7 +4,7 @@
 //! Reads cases as the program `replay` does (little-endian words: 0, work, scratch, n, n words; budget and scratch are passed over) and
 //! prints a JSON list for each: the diagnostics of the crate's functions called one by one, as [kind, operation, a, b]; the crate's words for
 //! diagnostics that no kind stands for; the same two by the crate's own way through the document, null where the document agrees with no
-//! schema; and for each selection the least row that is one field with it.
+//! schema; for each selection the least row that is one field with it; and the first conflict of each operation that has one, by its functions.
 #![allow(dead_code, unused_imports, unused_macros, clippy::all)]
 
 // `use apollo_parser::LimitTracker` of validation/selection.rs resolves here.
@@ -55,7 +55,9 @@ fn line(image: &[u32]) -> String {
     let read = image::read(image);
     let whole = if read.whole { shown(&drive::whole(&read)) } else { "null, null".to_string() };
     let class = drive::classes(&read, image[12] as usize);
-    format!("[{}, {whole}, {class:?}]", shown(&drive::by_function(&read)))
+    let said = drive::by_function(&read);
+    let first: Vec<[u32; 4]> = said.first.values().copied().collect();
+    format!("[{}, {whole}, {class:?}, {first:?}]", shown(&said))
 }
 
 fn main() {
