@@ -4,6 +4,7 @@ pub mod Marks
 pub mod ReachMeaning
 pub mod TypeLaws
 pub mod TypeMeaning
+pub mod NameLaws
 pub mod UseLaws
 pub mod VerdictLaws
 pub mod Covers

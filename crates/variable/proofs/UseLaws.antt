@@ -18,8 +18,10 @@ use Rattle.tables.specs.Columns.{spread, variable, list, setSelections, selecti
 use Rattle.variable.specs.Turns.{turns}
 use Rattle.variable.specs.Reach.{Walk, walkWords, reachedFrom, Holds, Walked}
 use Rattle.variable.specs.Definitions.{findName}
-use Rattle.variable.specs.Uses.{Uses, Pass, reachRange, reachSelection, reachSet, reachQueue, noneUsed, reachArguments, markVariable, useValue, passRow, passBegins, markVariables, marksAt, usesWords, endIn, markIn, Keeps, Steps, Queued, Reached, Passes}
+use Rattle.variable.specs.Uses.{Uses, Pass, reachRange, reachSelection, reachSet, reachQueue, noneUsed, reachArguments, markVariable, useValue, passRow, passBegins, markVariables, marksAt, namesAt, usesWords, endIn, markIn, Keeps, Steps, Queued, Reached, Passes}
+use Rattle.variable.specs.Names.{Searches}
 use Rattle.variable.proofs.WalkLaws.{turns-more}
+use Rattle.variable.proofs.NameLaws.{named-kept}
 
 -- a word stored in a part that is stored
 part-set : {s : List ℕ} {at n : ℕ} {ws : List ℕ} (k v : ℕ) → Stores s at n ws → k < n → Stores (set s (at + k) v) at n (set ws k v)
@@ -223,7 +225,7 @@ module _ (image : List ℕ) where
       → directives ≡ operationDirectives image i → Steps image (reachRange image directives) s₂ s₃ → Queued image s₃ n s₄ → Reached image i s s₄
   unfolding reachArguments zeros
   arguments-reached {s} {s₁} {s₂} {s₃} {s₄} {n} {i} {at} {words} {directives} walked place size cleared read p q =
-      record { keeps = kept; frame = outside-trans (outside-wider (walked .frame) 0 (usesWords image) (omega arith) (omega arith)) (outside-wider later 0 (usesWords image) (omega arith) (omega arith)) }
+      record { keeps = kept; frame = outside-trans (outside-wider (walked .frame) 0 (namesAt image) (omega arith) (omega arith)) (outside-wider later 0 (namesAt image) (omega arith) (omega arith)) }
     where
       clear-is : s₂ ≡ write s₁ (walkWords image) (replicate (min ownWords (length s₁ - walkWords image)) 0)
       clear-is = cleared ∙ rw (place, size) refl
@@ -336,3 +338,19 @@ module _ (image : List ℕ) where
   unfolding markVariables
   passing-ends {s₀} {s} {r} defined g e =
       record { keeps = λ u k. subst (λ (n : ℕ). Keeps image s (turns (passRow image defined) n (passBegins image u) .uses)) e (g .keeps u k); frame = g .frame }
+
+  -- ---- what is said where the names can be searched
+
+  pub searched : {defined : Range} {step : Uses → Uses} {s s′ : List ℕ} → Steps image step s s′ → Searches image defined s s′ (Steps image step s s′)
+  searched p = record { says = λ n. p; frame = p .frame }
+
+  pub passing-first : {s : List ℕ} (defined : Range) → Searches image defined s s (Passing defined s s 0 0)
+  passing-first {s} defined = record { says = λ n. passing-begins defined; frame = outside-none (walkWords image) ownWords s }
+
+  pub passing-next : {s₀ s s′ : List ℕ} {r end end′ : ℕ} (defined : Range) → Searches image defined s₀ s (Passing defined s₀ s r end)
+      → Searches image defined s s′ (Passes image defined r end s s′ end′) → Searches image defined s₀ s′ (Passing defined s₀ s′ (r + 1) end′)
+  passing-next defined g p =
+      record {
+        says = λ n. passing-on defined (g .says n) (p .says (named-kept image defined (walkWords image) (g .frame) (omega arith) n));
+        frame = outside-trans (g .frame) (p .frame);
+      }

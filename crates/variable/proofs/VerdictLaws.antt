@@ -16,10 +16,13 @@ use Rattle.tables.specs.declared.Range.{Range}
 use Rattle.tables.specs.Layout.{arguments}
 use Rattle.tables.specs.Image.{countAt, rowIn}
 use Rattle.tables.specs.Columns.{variable, operationVariables, valueKind, valueAtom}
+use Rattle.variable.specs.Reach.{walkWords}
 use Rattle.variable.specs.Definitions.{findName, usageAllowed, firstOutput, firstRepeated}
 use Rattle.variable.specs.Uses.{furthest, usesOf, markVariables, firstUnused, argumentAllowed, allowedBelow, firstMisused, endIn, markIn, usesWords, Keeps, Steps, Reached}
 use Rattle.variable.specs.Verdict.{Shown, usageShows, usesFault, definedFault, Judged}
 use Rattle.variable.specs.declared.rules.Usage.{Usage}
+use Rattle.variable.specs.Names.{Named, Names, Searches}
+use Rattle.variable.proofs.NameLaws.{named-kept}
 use Rattle.variable.proofs.UseLaws.{end-kept, mark-kept}
 
 -- how far ranges go, one row further
@@ -128,11 +131,15 @@ module _ (image : List ℕ) where
           let marks : markIn image s ≡ marksOf = λ x j. mark-kept image k j x in
           rw (← ends, ← marks) e
 
-      pub uses-judged : {k : ℕ} {s s₁ s₂ : List ℕ} {o : Option Shown} → k ≡ firstRepeated image defined → defined .count ≤ k
-          → Reached image i s s₁ → Steps image (markVariables image defined) s₁ s₂ → o ≡ usesFault image defined (endIn image s₂) (markIn image s₂)
-          → usesWords image ≤ length s → o ≡ definedFault image defined i
+      -- the names can be searched, arguments are reached, variables marked, and then 12 and 13 are asked
+      pub uses-judged : {k : ℕ} {s s₁ s₂ : List ℕ} {o : Option Shown} → Named image defined s → (Named image defined s → k ≡ firstRepeated image defined) → defined .count ≤ k
+          → Reached image i s s₁ → Searches image defined s₁ s₂ (Steps image (markVariables image defined) s₁ s₂)
+          → (Named image defined s₂ → o ≡ usesFault image defined (endIn image s₂) (markIn image s₂)) → usesWords image ≤ length s → o ≡ definedFault image defined i
       unfolding usesOf
-      uses-judged found distinct reached marked e room = uses-shown found distinct (words-shown (marked .keeps _ (reached .keeps room)) e)
+      uses-judged names found distinct reached marked e room =
+          let names₁ = named-kept image defined 0 (reached .frame) (omega arith) names in
+          let names₂ = named-kept image defined (walkWords image) (marked .frame) (omega arith) names₁ in
+          uses-shown (found names) distinct (words-shown (marked .says names₁ .keeps _ (reached .keeps room)) (e names₂))
 
   -- ---- the whole answer
 
@@ -141,10 +148,21 @@ module _ (image : List ℕ) where
     pub judged-early : usageShows answer ≡ definedFault image defined i → Judged image i s s answer
     judged-early e = record { shows = λ room. e ∙ ap (λ (d : Range). definedFault image d i) read; frame = outside-none 0 (usesWords image) s }
 
-    pub judged-late : {s₁ s₂ : List ℕ} → Reached image i s s₁ → Steps image (markVariables image defined) s₁ s₂
-        → (usesWords image ≤ length s → usageShows answer ≡ definedFault image defined i) → Judged image i s s₂ answer
-    judged-late reached marked e =
+    -- with a look at the names alone
+    pub judged-named : {s₁ : List ℕ} → Names image defined s s₁ → (Named image defined s₁ → usageShows answer ≡ definedFault image defined i) → Judged image i s s₁ answer
+    judged-named names e =
         record {
-          shows = λ room. e room ∙ ap (λ (d : Range). definedFault image d i) read;
-          frame = outside-trans (reached .frame) (outside-wider (marked .frame) 0 (usesWords image) (omega arith) (omega arith));
+          shows = λ room. e (names .named room) ∙ ap (λ (d : Range). definedFault image d i) read;
+          frame = outside-wider (names .frame) 0 (usesWords image) (omega arith) (omega arith);
+        }
+
+    pub judged-late : {s₁ s₂ s₃ : List ℕ} → Names image defined s s₁ → Reached image i s₁ s₂ → Searches image defined s₂ s₃ (Steps image (markVariables image defined) s₂ s₃)
+        → (Named image defined s₁ → usesWords image ≤ length s₁ → usageShows answer ≡ definedFault image defined i) → Judged image i s s₃ answer
+    judged-late {s₁} names reached marked e =
+        let long : length s₁ ≡ length s = names .frame .long in
+        record {
+          shows = λ room. e (names .named room) (omega arith) ∙ ap (λ (d : Range). definedFault image d i) read;
+          frame =
+              outside-trans (outside-wider (names .frame) 0 (usesWords image) (omega arith) (omega arith))
+              (outside-trans (outside-wider (reached .frame) 0 (usesWords image) (omega arith) (omega arith)) (outside-wider (marked .frame) 0 (usesWords image) (omega arith) (omega arith)));
         }

@@ -4,5 +4,6 @@ pub mod Reach
 pub mod Types
 pub mod Definitions
 pub mod Uses
+pub mod Names
 pub mod Verdict
 pub mod Rules

@@ -1,7 +1,7 @@
 -- The arguments that an operation reaches and the variables in their values (kinds 12 and 13), as the code finds them: for every image.
 -- For each value row, how far the reached ranges go that begin there; for each variable of the operation, whether it is used.
 -- Assumes nothing.
-use Prim.Native.Nat.{ℕ, zero, suc, _+_, _≤_, max}
+use Prim.Native.Nat.{ℕ, zero, suc, _+_, _*_, _≤_, max}
 use mathlib.Core.Path.{_≡_}
 use mathlib.Core.Bool.{Bool, true, cond, not}
 use mathlib.Core.List.{List}
@@ -106,14 +106,17 @@ module _ (image : List ℕ) where
   unfoldable pub firstMisused : Range → (end : ℕ → ℕ) → ℕ
   firstMisused defined end = position (countAt image arguments) (λ a. not (allowedBelow defined a (furthest end (suc a))))
 
--- ---- the lent words: those of the walk, then the ends, then the marks
+-- ---- the lent words: those of the walk, then the ends, then the marks, then the names of the operation's variables (specs/Names)
 
 module _ (image : List ℕ) where
   abbrev pub marksAt : ℕ
   marksAt = walkWords image + countAt image values
 
+  abbrev pub namesAt : ℕ
+  namesAt = marksAt + countAt image variables
+
   abbrev pub usesWords : ℕ
-  usesWords = marksAt + countAt image variables
+  usesWords = namesAt + 3 * countAt image variables
 
   -- the end of a row and the mark of a variable, as the words have them; 0 past the last
   unfoldable pub endIn : List ℕ → ℕ → ℕ
@@ -141,7 +144,7 @@ module _ (image : List ℕ) where
   -- what an operation reaches, whatever stood in s
   pub record Reached (i : ℕ) (s s′ : List ℕ) : Type 0 where
     pub keeps : usesWords ≤ length s → Keeps s′ (reachArguments image i)
-    pub frame : Outside 0 usesWords s s′
+    pub frame : Outside 0 namesAt s s′
 
   -- a row is passed, `end` and `end′` being how far ranges go before and after
   pub record Passes (defined : Range) (r end : ℕ) (s s′ : List ℕ) (end′ : ℕ) : Type 0 where

@@ -1,5 +1,6 @@
 // Kinds 10 and 11: the types and the names of an operation's variables. Each contract is a definition of specs/Definitions, for
 // every image.
+use crate::names::find_variable;
 use tables::Range;
 use tables::columns::innermost;
 use tables::columns::is_composite;
@@ -8,22 +9,8 @@ use tables::columns::variable_name;
 use tables::columns::variable_type;
 use tables::row_in;
 ghost use mathlib.Core.Path.{_≡_};
-ghost use Rattle.variable.specs.Definitions.{findName, isOutput, firstOutput, firstRepeated};
-
-// How far into some variables the first one of that name stands; their count where there is none.
-pub fn find_variable(image: &[u32], variables: Range, name: u32) -> u32
-    ensures { λ r. ⌜ r ≡ findName (now (image .entry)) variables name ⌝ }
-{
-    let rows_count = variables.count;
-    let mut i: u32 = 0;
-    while i < rows_count {
-        if variable_name(image, row_in(variables, i)) == name {
-            return i;
-        }
-        i += 1;
-    }
-    rows_count
-}
+ghost use Rattle.variable.specs.Definitions.{isOutput, firstOutput, firstRepeated};
+ghost use Rattle.variable.specs.Names.{Named};
 
 // Whether a variable's innermost type is an object, an interface or a union.
 fn is_output_variable(image: &[u32], variable: u32) -> bool
@@ -48,15 +35,16 @@ pub fn validate_input_types(image: &[u32], variables: Range) -> u32
     rows_count
 }
 
-// Kind 11: how far in the first variable stands that has an earlier one's name; the count where there is none.
-pub fn validate_unique_names(image: &[u32], variables: Range) -> u32
-    ensures { λ r. ⌜ r ≡ firstRepeated (now (image .entry)) variables ⌝ }
+// Kind 11: how far in the first variable stands that has an earlier one's name; the count where there is none. The names are
+// searched.
+pub fn validate_unique_names(image: &[u32], s: &[u32], variables: Range) -> u32
+    ensures { λ r. ⌜ (Named (now (image .entry)) variables (now (s .entry)) → r ≡ firstRepeated (now (image .entry)) variables) ⌝ }
 {
     let rows_count = variables.count;
     let mut i: u32 = 0;
     while i < rows_count {
         let name = variable_name(image, row_in(variables, i));
-        if find_variable(image, variables, name) != i {
+        if find_variable(image, s, variables, name) != i {
             return i;
         }
         i += 1;

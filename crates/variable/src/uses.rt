@@ -1,6 +1,7 @@
 // The arguments that an operation reaches, and the variables in their values. The lent words: those of `reach`, then for each
-// value row how far the reached ranges go that begin there, then a mark for each variable. Any words may be given.
-use crate::definitions::find_variable;
+// value row how far the reached ranges go that begin there, then a mark for each variable, then those of `names`. Any words may be
+// given.
+use crate::names::find_variable;
 use crate::reach::queued_set;
 use crate::reach::walk_selections_with_deduped_fragments;
 use lists::clear;
@@ -27,6 +28,7 @@ ghost use mathlib.Core.Path.{_≡_};
 ghost use Prim.Native.Nat.{_^_, _<_};
 ghost use Rattle.variable.specs.Reach.{walkWords};
 ghost use Rattle.variable.specs.Uses.{reachRange, reachSelection, reachSet, markVariable, useValue, markVariables, marksAt, endIn, markIn, Steps, Queued, Reached, Passes};
+ghost use Rattle.variable.specs.Names.{Searches};
 
 // Where the ends begin, and where the marks do.
 fn ends_at(image: &[u32]) -> usize
@@ -35,7 +37,7 @@ fn ends_at(image: &[u32]) -> usize
     2 * (count(image, SETS) as usize)
 }
 
-fn marks_at(image: &[u32]) -> usize
+pub(crate) fn marks_at(image: &[u32]) -> usize
     ensures { λ r. ⌜ (r ≡ marksAt (now (image .entry))) × (r < 2 ^ 35) ⌝ }
 {
     ends_at(image) + (count(image, VALUES) as usize)
@@ -132,11 +134,11 @@ fn mark_variable(image: &[u32], s: &mut [u32], i: u32)
 
 // A reached value: a variable is marked, the members of a list or an object are reached.
 fn variables_in_value(image: &[u32], s: &mut [u32], variables: Range, row: u32)
-    ensures { λ _. ⌜ Steps (now (image .entry)) (useValue (now (image .entry)) variables row) (now (s .entry)) (now (s .exit)) ⌝ }
+    ensures { λ _. ⌜ Searches (now (image .entry)) variables (now (s .entry)) (now (s .exit)) (Steps (now (image .entry)) (useValue (now (image .entry)) variables row) (now (s .entry)) (now (s .exit))) ⌝ }
 {
     let kind = value_kind(image, row);
     if kind == VARIABLE {
-        let i = find_variable(image, variables, value_atom(image, row));
+        let i = find_variable(image, &s[..], variables, value_atom(image, row));
         mark_variable(image, s, i);
         return;
     }
@@ -147,7 +149,7 @@ fn variables_in_value(image: &[u32], s: &mut [u32], variables: Range, row: u32)
 
 // One row of the pass: how far the ranges go that begin at it or before, `end` being how far those before it go.
 fn pass_row(image: &[u32], s: &mut [u32], variables: Range, row: u32, end: u32) -> u32
-    ensures { λ r. ⌜ Passes (now (image .entry)) variables row end (now (s .entry)) (now (s .exit)) r ⌝ }
+    ensures { λ r. ⌜ Searches (now (image .entry)) variables (now (s .entry)) (now (s .exit)) (Passes (now (image .entry)) variables row end (now (s .entry)) (now (s .exit)) r) ⌝ }
 {
     let next = most(end, end_of_row(image, &s[..], row));
     if row < next {
@@ -158,7 +160,7 @@ fn pass_row(image: &[u32], s: &mut [u32], variables: Range, row: u32, end: u32) 
 
 // The variables in all reached values are marked: members stand later, so one pass up the rows suffices.
 pub fn mark_variables(image: &[u32], s: &mut [u32], variables: Range)
-    ensures { λ _. ⌜ Steps (now (image .entry)) (markVariables (now (image .entry)) variables) (now (s .entry)) (now (s .exit)) ⌝ }
+    ensures { λ _. ⌜ Searches (now (image .entry)) variables (now (s .entry)) (now (s .exit)) (Steps (now (image .entry)) (markVariables (now (image .entry)) variables) (now (s .entry)) (now (s .exit))) ⌝ }
 {
     let rows = count(image, VALUES);
     let mut end: u32 = 0;

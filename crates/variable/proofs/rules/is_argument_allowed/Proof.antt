@@ -6,13 +6,13 @@ use Rattle.variable.proofs.rules.is_argument_allowed.Statement.{stateme
 use Rattle.variable.proofs.rules.is_argument_allowed.Tie as tie
 
 returns : tie.Need-returns
-returns c = defined-variable _ _ _ (c .before .before .before .before .before .before .before .value-kind .ensures) (c .before .before .before .before .before .before .if1 .taken) (c .before .before .before .before .before .value-atom .ensures) (c .before .before .before .before .find-variable .ensures) (omega arith) (c .before .row-in .ensures) (c .is-variable-usage-allowed .ensures)
+returns c n = defined-variable _ _ _ (c .before .before .before .before .before .before .before .value-kind .ensures) (c .before .before .before .before .before .before .if1 .taken) (c .before .before .before .before .before .value-atom .ensures) (c .before .before .before .before .find-variable .ensures n) (omega arith) (c .before .row-in .ensures) (c .is-variable-usage-allowed .ensures)
 
 returns-2 : tie.Need-returns-2
-returns-2 c = undefined-variable _ _ _ (c .before .before .before .before .before .value-kind .ensures) (c .before .before .before .before .if1 .taken) (c .before .before .before .value-atom .ensures) (c .before .before .find-variable .ensures) (omega arith)
+returns-2 c n = undefined-variable _ _ _ (c .before .before .before .before .before .value-kind .ensures) (c .before .before .before .before .if1 .taken) (c .before .before .before .value-atom .ensures) (c .before .before .find-variable .ensures n) (omega arith)
 
 returns-3 : tie.Need-returns-3
-returns-3 c = no-variable _ _ _ (c .before .value-kind .ensures) (c .if1 .left)
+returns-3 c n = no-variable _ _ _ (c .before .value-kind .ensures) (c .if1 .left)
 
 pub is-argument-allowed-spec : {M : Type 1} → statement M
 is-argument-allowed-spec =

@@ -1,0 +1,2 @@
+-- What the contracts of the search by key are written with.
+pub mod Indexed
