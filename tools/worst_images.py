@@ -67,6 +67,13 @@ def dense_loop(n):
     return {**image, "sets": image["sets"][:-1] + [(1, first, count + 1)], "selections": image["selections"] + [spread(n - 1)]}
 
 
+def two_loops(n):
+    """As `dense-loop`, and one more fragment that spreads itself, which nothing else reaches."""
+    image = dense_loop(n - 1)
+    own = (1, len(image["selections"]), 1)
+    return {**image, "fragments": [(0, 0)] * n, "sets": image["sets"] + [own], "selections": image["selections"] + [spread(n - 1)]}
+
+
 def heavy_loop(n):
     """512 fragments as in `loop`; the last has n fields besides."""
     ways = [[spread(i + 1)] for i in range(511)]
@@ -151,13 +158,13 @@ def same(n):
     return document([[leaf()] * n])
 
 
-def used_variables(n, times):
+def used_variables(n, times, name=lambda i: 10 + i):
     """n variables with different names, each the value of so many arguments, the last variable first."""
     total = n * times
     fields = [leaf(10 + i, 64 * i, min(64, total - 64 * i)) for i in range(-(-total // 64))]
     return document(
-        [fields], operations=[(0, n, 0, 0)], variables=[(10 + i, LEAF, 0) for i in range(n)],
-        arguments=[(10 + i, LEAF, 0) for i in range(total)], values=[(VARIABLE, NONE, 9 + n - i % n, 0) for i in range(total)])
+        [fields], operations=[(0, n, 0, 0)], variables=[(name(i), LEAF, 0) for i in range(n)],
+        arguments=[(10 + i, LEAF, 0) for i in range(total)], values=[(VARIABLE, NONE, name(n - 1 - i % n), 0) for i in range(total)])
 
 
 def variables(n):
@@ -168,6 +175,11 @@ def variables(n):
 def uses(n):
     """n variables, each used seven times."""
     return used_variables(n, 7)
+
+
+def bits(n):
+    """n variables, each used once, whose names agree in all bits but the ten highest, so that the search for one is long."""
+    return used_variables(n, 1, lambda i: i << 22)
 
 
 def arguments(n):
@@ -204,6 +216,7 @@ IMAGES = [
     ("tiers", tiers, (100, 200, 400)),
     ("loop", loop, (128, 256, 512)),
     ("dense-loop", dense_loop, (128, 256, 512)),
+    ("two-loops", two_loops, (128, 256, 512)),
     ("heavy-loop", heavy_loop, (1500, 3000, 6000)),
     ("forward", forward, (25, 50, 100)),
     ("backward", backward, (25, 50, 100)),
@@ -218,6 +231,7 @@ IMAGES = [
     ("same", same, (1792, 3584, 7168)),
     ("variables", variables, (256, 512, 1024)),
     ("uses", uses, (256, 512, 1024)),
+    ("bits", bits, (256, 512, 1024)),
     ("arguments", arguments, (1920, 3840, 7680)),
     ("lists", lists, (3840, 7680, 15360)),
     ("members", members, (7, 14, 28)),

@@ -1,14 +1,13 @@
 -- The words behind the heights: what a walk that is lent them leaves, and what stays as it was. Assumes nothing.
-use Prim.Native.Nat.{ℕ, _+_, _*_, _-_, _<_, _≤_}
+use Prim.Native.Nat.{ℕ, _+_, _*_, _-_, _<_, _≤_, zero-le}
 use mathlib.Core.Path.{_≡_, sym, ap, _∙_}
-use mathlib.Core.Logic.{inr}
 use mathlib.Core.Bool.{Bool, true, false}
 use mathlib.Core.List.{List, _++_}
 use native.Mathlib.Omega.{arith}
 use lib.Dec.{eqb}
 use lib.ListN.{length, take, drop, getD}
-use Rattle.lists.specs.Part.{part, write, Outside}
-use Rattle.lists.proofs.Parts.{length-part, getD-part, write-outside, stores-getD, stores-kept, outside-wider}
+use Rattle.lists.specs.Part.{write, Outside}
+use Rattle.lists.proofs.Parts.{length-part, getD-part, write-outside, stores-getD, outside-wider}
 use Rattle.lists.proofs.Loans.{lent-back, lent-part, stores-out}
 use Rattle.tables.specs.Layout.{fragments, sets}
 use Rattle.tables.specs.Image.{countAt}
@@ -29,27 +28,29 @@ lentPart s start count = take (start + 2 * count - start) (drop start s)
 abbrev pub lentBack : (s : List ℕ) (start count : ℕ) (ys : List ℕ) → List ℕ
 lentBack s start count ys = take start s ++ (ys ++ drop (start + 2 * count - start) (drop start s))
 
-module _ (image : List ℕ) (range : Range) (s : List ℕ) {start count n : ℕ} {ys : List ℕ} (from : start ≡ behind image) (size : count ≡ countAt image sets) (fits : start + 2 * count ≤ length s)
-    (walked′ : Walked image (reachedFrom image range) (lentPart s start count) ys n) where
-  walked : Walked image (reachedFrom image range) (part s start (2 * count)) ys n
-  walked = rw (← lent-part s start (2 * count)) walked′
-
-  lent : length (part s start (2 * count)) ≡ 2 * count
-  lent = length-part s start (2 * count) fits
-
+module _ (s : List ℕ) (start count : ℕ) (ys : List ℕ) (fits : start + 2 * count ≤ length s) (same : length ys ≡ length (lentPart s start count)) where
   back : length ys ≡ 2 * count
-  back = walked .frame .long ∙ lent
+  back = same ∙ ap length (lent-part s start (2 * count)) ∙ length-part s start (2 * count) fits
 
   whole : lentBack s start count ys ≡ write s start ys
   whole = lent-back s start (2 * count) ys back
 
-  pub walk-keeps : HeightsKept image s (lentBack s start count ys)
-  walk-keeps = rw whole (outside-wider (write-outside s start ys (omega (arith, back))) (behind image) (2 * countAt image sets) (omega arith) (omega (arith, back)))
+  part-outside : Outside start (2 * count) s (lentBack s start count ys)
+  part-outside = rw (whole, ← back) (write-outside s start ys (omega (arith, back)))
 
-  pub walk-marks : Marked image range (lentBack s start count ys)
-  walk-marks =
-      let at : start + 0 ≡ behind image = omega arith in
-      rw (whole, ← at) (stores-out s start (walked .holds (omega (arith, lent)) .marks) (omega (arith, back)))
+  module _ (image : List ℕ) (size : count ≡ countAt image sets) where
+    -- in front, where no heights stand
+    pub front-within : start ≡ count → Outside 0 (fragmentsWords image) s (lentBack s start count ys)
+    front-within from = outside-wider part-outside 0 (fragmentsWords image) zero-le (omega arith)
+
+    pub part-keeps : start ≡ behind image → HeightsKept image s (lentBack s start count ys)
+    part-keeps from = outside-wider part-outside (behind image) (2 * countAt image sets) (omega arith) (omega arith)
+
+    pub walk-marks : start ≡ behind image → (range : Range) {n : ℕ} → Walked image (reachedFrom image range) (lentPart s start count) ys n → Marked image range (lentBack s start count ys)
+    walk-marks from range walked =
+        let at : start + 0 ≡ behind image = omega arith in
+        let enough : 2 * countAt image sets ≤ length (lentPart s start count) = omega (arith, same, back) in
+        rw (whole, ← at) (stores-out s start (walked .holds enough .marks) (omega (arith, back)))
 
 module _ (image s : List ℕ) (f : ℕ) where
   -- the mark of a fragment's set, read from the part
@@ -64,6 +65,14 @@ module _ (image s : List ℕ) (f : ℕ) where
   mark-says range marked known e = e ∙ ap (λ (m : ℕ). eqb m led) (stores-getD marked (fragmentSet image f) known)
 
 -- ---- what stays
+
+-- all that changes lies in the words that are needed
+module _ (image : List ℕ) {s s′ : List ℕ} where
+  pub behind-within : HeightsKept image s s′ → Outside 0 (fragmentsWords image) s s′
+  behind-within o = outside-wider o 0 (fragmentsWords image) zero-le (omega arith)
+
+  pub heights-within : Outside 0 (behind image) s s′ → Outside 0 (fragmentsWords image) s s′
+  heights-within o = outside-wider o 0 (fragmentsWords image) zero-le (omega arith)
 
 kept-heights : (image s s′ : List ℕ) → HeightsKept image s s′ → (t : ℕ) → t < countAt image sets → heightAt s′ t ≡ heightAt s t
 kept-heights image s s′ o t h = laws.all-three (o .below _ (omega arith)) (o .below _ (omega arith)) (o .below _ (omega arith))
@@ -107,10 +116,3 @@ module _ {image s : List ℕ} (good : Good image) (room : fragmentsWords image �
 -- the operations' sets, as they were read
 pub from-operations : (image : List ℕ) {range : Range} {s : List ℕ} → range ≡ operationSets image → Marked image range s → Marked image (operationSets image) s
 from-operations image e marked = rw (← e) marked
-
--- marks where no word has changed, or only heights have
-pub marked-same : (image : List ℕ) (range : Range) {s s′ : List ℕ} → s′ ≡ s → Marked image range s → Marked image range s′
-marked-same image range e marked = rw e marked
-
-pub marked-still : (image : List ℕ) (range : Range) {s s′ : List ℕ} → Outside 0 (behind image) s s′ → Marked image range s → Marked image range s′
-marked-still image range o marked = stores-kept o marked (inr (omega arith))

@@ -128,13 +128,13 @@ pub record Known (image : List ℕ) (k : ℕ) (s : List ℕ) : Type 0 where
   pub nested : Told image (nests image) mostNested (λ h. h .nested) k s
 
 module _ (image : List ℕ) where
-  by-chain : Weight image (isSpread image) mostChain (λ h. h .chain)
+  pub by-chain : Weight image (isSpread image) mostChain (λ h. h .chain)
   by-chain = record { by-sets = λ h s. refl }
 
-  by-links : Weight image isLink mostLinks (λ h. h .links)
+  pub by-links : Weight image isLink mostLinks (λ h. h .links)
   by-links = record { by-sets = λ h s. refl }
 
-  by-nested : Weight image (nests image) mostNested (λ h. h .nested)
+  pub by-nested : Weight image (nests image) mostNested (λ h. h .nested)
   by-nested = record { by-sets = λ h s. refl }
 
   -- before the first round the heights need only be sound

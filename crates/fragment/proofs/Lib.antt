@@ -7,11 +7,13 @@ pub mod Sweeps
 pub mod Exact
 pub mod Cleared
 pub mod Behind
+pub mod Pigeons
 pub mod Cycles
+pub mod Ordered
+pub mod Rising
 pub mod RuleLaws
 pub mod Following
 pub mod Theorems
-pub mod Pigeons
 pub mod Owners
 pub mod Verdict
 pub mod Specimens

@@ -11,18 +11,17 @@ use lib.Dec.{leb, ltb}
 use Rattle.lists.specs.Every.{position}
 use Rattle.lists.specs.First.{expect, _▷_}
 use Rattle.lists.proofs.EveryLaws.{position-found, position-none, before-position}
-use Rattle.lists.proofs.FirstLaws.{next-none, passed}
+use Rattle.lists.proofs.FirstLaws.{passed}
 use Rattle.tables.specs.Layout.{operations, fragments}
 use Rattle.tables.specs.Image.{countAt}
 use Rattle.tables.specs.Columns.{fragmentSet}
 use Rattle.fragment.specs.declared.rules.Fragments.{Fragments}
 use Rattle.fragment.specs.declared.rules.Fragments.the-variants.{Good, Wrong}
-use Rattle.fragment.specs.Heights.{mostChain, mostLinks, mostNested, spreadsFrom}
+use Rattle.fragment.specs.Heights.{mostChain, mostLinks, mostNested}
 use Rattle.fragment.specs.Rounds.{heightAt, ShortChains}
 use Rattle.fragment.specs.Rules.{Refusal, refusal, fragmentsShow, lowest, reachesItself, startsLongChain, hasManyLinks, nestsDeep, isUnused, cycleFault, chainFault, linksFault, nestingFault, unusedFault, fragmentsFault}
 use Rattle.fragment.specs.Walks.{Ready}
 use Rattle.fragment.proofs.Links.{fragment-set-in}
-use Rattle.fragment.proofs.Cycles.{cycle-is-long}
 
 -- ---- loops
 
@@ -58,50 +57,40 @@ module _ (n : ℕ) (fails : ℕ → Bool) (shows : ℕ → Refusal) where
   unfolding lowest
   none-failed e k l = before-position n fails k (lt-of-lt-of-le l (leb-true _ _ (passed _ _ e)))
 
--- ---- kinds 5 and 6
+-- ---- kind 5
 
-module _ {image s : List ℕ} (ready : Ready image s) where
-  chains-same : position (countAt image fragments) (λ f. leb mostChain (heightAt s (fragmentSet image f) .chain)) ≡ position (countAt image fragments) (startsLongChain image)
+module _ (image : List ℕ) {n cyclic : ℕ} (all : n ≡ countAt image fragments) (lowest-cyclic : cyclic ≡ position (countAt image fragments) (reachesItself image)) where
+  pub a-cycle : cyclic < n → some (refusal 5 0 cyclic) ≡ fragmentsFault image
+  unfolding fragmentsFault cycleFault _▷_
+  a-cycle l = rw (lowest-fails _ _ (refusal 5 0) lowest-cyclic (omega arith))
+
+  pub no-cycle : n ≤ cyclic → cycleFault image ≡ none
+  unfolding cycleFault
+  no-cycle past = none-fails _ _ _ (none-passed _ _ all lowest-cyclic past)
+
+pub none-cyclic : (image : List ℕ) → ((f : ℕ) → f < countAt image fragments → reachesItself image f ≡ false) → cycleFault image ≡ none
+unfolding cycleFault
+none-cyclic image each = none-fails _ _ _ each
+
+-- ---- kind 6
+
+module _ {image s : List ℕ} (ready : Ready image s) {n chained : ℕ} (all : n ≡ countAt image fragments)
+    (chains : chained ≡ position (countAt image fragments) (λ f. leb mostChain (heightAt s (fragmentSet image f) .chain))) where
+  lowest-chain : chained ≡ position (countAt image fragments) (startsLongChain image)
   unfolding startsLongChain
-  chains-same = position-cong _ _ _ (λ f l. ap (leb mostChain) (ready .heights (fragmentSet image f) (fragment-set-in (ready .good) f l) .chain))
+  lowest-chain = chains ∙ position-cong _ _ _ (λ f l. ap (leb mostChain) (ready .heights (fragmentSet image f) (fragment-set-in (ready .good) f l) .chain))
 
-  -- one without a long chain does not reach itself
-  pub short-no-cycle : (f : ℕ) → f < countAt image fragments → spreadsFrom image (fragmentSet image f) < mostChain → reachesItself image f ≡ false
-  short-no-cycle f l few = go (reachesItself image f) refl
-    where
-      go : (b : Bool) → reachesItself image f ≡ b → reachesItself image f ≡ false
-      go true e = let long = cycle-is-long (ready .good) f l e in absurd (omega arith)
-      go false e = e
+  pub a-chain : chained < n → some (refusal 6 0 chained) ≡ (chainFault image ▷ (linksFault image ▷ nestingFault image))
+  unfolding chainFault _▷_
+  a-chain l = rw (lowest-fails _ _ (refusal 6 0) lowest-chain (omega arith))
 
-  pub not-long : (f : ℕ) → f < countAt image fragments → leb mostChain (heightAt s (fragmentSet image f) .chain) ≡ false → reachesItself image f ≡ false
-  not-long f l e =
-      let h = ready .heights (fragmentSet image f) (fragment-set-in (ready .good) f l) .chain in
-      short-no-cycle f l (rw (← h) (leb-false _ _ e))
+  pub no-chain : n ≤ chained → chainFault image ≡ none
+  unfolding chainFault
+  no-chain past = none-fails _ _ _ (none-passed _ _ all lowest-chain past)
 
-  module _ {n chained : ℕ} (all : n ≡ countAt image fragments)
-      (chains : chained ≡ position (countAt image fragments) (λ f. leb mostChain (heightAt s (fragmentSet image f) .chain))) where
-    lowest-chain : chained ≡ position (countAt image fragments) (startsLongChain image)
-    lowest-chain = chains ∙ chains-same
-
-    none-long : n ≤ chained → (f : ℕ) → f < countAt image fragments → leb mostChain (heightAt s (fragmentSet image f) .chain) ≡ false
-    none-long past = none-passed _ _ all chains past
-
-    pub no-chain : n ≤ chained → none ≡ (cycleFault image ▷ chainFault image)
-    unfolding cycleFault chainFault _▷_
-    no-chain past =
-        let no-cycle : cycleFault image ≡ none = none-fails _ _ _ (λ f l. not-long f l (none-long past f l)) in
-        let no-long : chainFault image ≡ none = none-fails _ _ _ (none-passed _ _ all lowest-chain past) in
-        rw (no-cycle, no-long)
-
-    pub a-cycle : {cyclic : ℕ} → cyclic ≡ position (countAt image fragments) (reachesItself image) → cyclic < n → some (refusal 5 0 cyclic) ≡ (cycleFault image ▷ chainFault image)
-    unfolding cycleFault _▷_
-    a-cycle e l = rw (lowest-fails _ _ (refusal 5 0) e (omega arith))
-
-    pub a-chain : {cyclic : ℕ} → cyclic ≡ position (countAt image fragments) (reachesItself image) → n ≤ cyclic → chained < n → some (refusal 6 0 chained) ≡ (cycleFault image ▷ chainFault image)
-    unfolding cycleFault chainFault _▷_
-    a-chain e past l =
-        let no-cycle : cycleFault image ≡ none = none-fails _ _ _ (none-passed _ _ all e past) in
-        rw (no-cycle, lowest-fails _ _ (refusal 6 0) lowest-chain (omega arith))
+pub past-chains : (image : List ℕ) {shown : Option Refusal} → chainFault image ≡ none → shown ≡ (linksFault image ▷ nestingFault image) → shown ≡ (chainFault image ▷ (linksFault image ▷ nestingFault image))
+unfolding _▷_
+past-chains image none-long e = rw none-long e
 
 -- ---- kinds 7 and 8
 
@@ -109,10 +98,10 @@ pub no-fault-short : (image : List ℕ) → chainFault image ≡ none → ShortC
 unfolding chainFault startsLongChain
 no-fault-short image e f l = leb-false _ _ (none-failed _ _ _ e f l)
 
-module _ {image s : List ℕ} (ready : Ready image s) (fine : (cycleFault image ▷ chainFault image) ≡ none) {n linked : ℕ} (all : n ≡ countAt image operations)
+module _ {image s : List ℕ} (ready : Ready image s) (fine : chainFault image ≡ none) {n linked : ℕ} (all : n ≡ countAt image operations)
     (links : linked ≡ position (countAt image operations) (λ i. ltb mostLinks (heightAt s i .links))) where
   short : ShortChains image
-  short = no-fault-short image (next-none _ _ fine)
+  short = no-fault-short image fine
 
   lowest-links : linked ≡ position (countAt image operations) (hasManyLinks image)
   unfolding hasManyLinks
@@ -147,26 +136,28 @@ module _ {image s : List ℕ} (ready : Ready image s) (fine : (cycleFault image 
 pub shows-none : {answer : Fragments} {shown : Option Refusal} → answer ≡ Good → fragmentsShow answer ≡ shown → shown ≡ none
 shows-none good e = sym e ∙ ap fragmentsShow good
 
-pub shows-good : {answer : Fragments} → answer ≡ Good → fragmentsShow answer ≡ none
-shows-good good = ap fragmentsShow good
+first-of-three : (a b c : Option Refusal) → (a ▷ b ▷ c) ≡ ((a ▷ b) ▷ c)
+unfolding _▷_
+first-of-three none b c = refl
+first-of-three (some x) b c = refl
 
-module _ (image : List ℕ) where
-  pub chained-wrong : {answer : Fragments} {kind operation a : ℕ} → fragmentsShow answer ≡ (cycleFault image ▷ chainFault image) → answer ≡ Wrong kind operation a → fragmentsShow answer ≡ fragmentsFault image
+module _ (image : List ℕ) (acyclic : cycleFault image ≡ none) where
+  -- what the kinds after 5 show
+  limits-first : fragmentsFault image ≡ ((chainFault image ▷ (linksFault image ▷ nestingFault image)) ▷ unusedFault image)
   unfolding fragmentsFault _▷_
-  chained-wrong e w = rw (← e, w)
+  limits-first = rw acyclic (first-of-three (chainFault image) (linksFault image ▷ nestingFault image) (unusedFault image))
 
-  module _ (fine : (cycleFault image ▷ chainFault image) ≡ none) where
-    pub operations-wrong : {answer : Fragments} {kind operation a : ℕ} → fragmentsShow answer ≡ (linksFault image ▷ nestingFault image) → answer ≡ Wrong kind operation a → fragmentsShow answer ≡ fragmentsFault image
-    unfolding fragmentsFault _▷_
-    operations-wrong e w = rw (fine, ← e, w)
+  pub limits-wrong : {answer : Fragments} {kind operation a : ℕ} → fragmentsShow answer ≡ (chainFault image ▷ (linksFault image ▷ nestingFault image)) → answer ≡ Wrong kind operation a → fragmentsShow answer ≡ fragmentsFault image
+  unfolding _▷_
+  limits-wrong e w = rw (limits-first, ← e, w)
 
-    module _ (flat : (linksFault image ▷ nestingFault image) ≡ none) {n unused : ℕ} (all : n ≡ countAt image fragments) (lowest-unused : unused ≡ position (countAt image fragments) (isUnused image)) where
-      pub one-unused : unused < n → some (refusal 9 0 unused) ≡ fragmentsFault image
-      unfolding fragmentsFault unusedFault _▷_
-      one-unused l = rw (fine, flat, lowest-fails _ _ (refusal 9 0) lowest-unused (omega arith))
+  module _ (flat : (chainFault image ▷ (linksFault image ▷ nestingFault image)) ≡ none) {n unused : ℕ} (all : n ≡ countAt image fragments) (lowest-unused : unused ≡ position (countAt image fragments) (isUnused image)) where
+    pub one-unused : unused < n → some (refusal 9 0 unused) ≡ fragmentsFault image
+    unfolding unusedFault _▷_
+    one-unused l = rw (limits-first, flat, lowest-fails _ _ (refusal 9 0) lowest-unused (omega arith))
 
-      pub none-unused : n ≤ unused → none ≡ fragmentsFault image
-      unfolding fragmentsFault unusedFault _▷_
-      none-unused past =
-          let used : unusedFault image ≡ none = none-fails _ _ _ (none-passed _ _ all lowest-unused past) in
-          rw (fine, flat, used)
+    pub none-unused : n ≤ unused → none ≡ fragmentsFault image
+    unfolding unusedFault _▷_
+    none-unused past =
+        let used : unusedFault image ≡ none = none-fails _ _ _ (none-passed _ _ all lowest-unused past) in
+        rw (limits-first, flat, used)

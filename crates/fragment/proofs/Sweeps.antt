@@ -56,7 +56,7 @@ module _ (s : List ℕ) (t : ℕ) (h : Height) where
       kept : (k : ℕ) → 3 * u ≤ k → k < 3 * u + 3 → getD (withHeight s t h) k 0 ≡ getD s k 0
       kept k from to = untouched k (apart k from to)
 
-  stored-here : 3 * t + 3 ≤ length s → heightAt (withHeight s t h) t ≡ h
+  pub stored-here : 3 * t + 3 ≤ length s → heightAt (withHeight s t h) t ≡ h
   stored-here room =
       let long : length first ≡ length s = length-set s (3 * t) (h .chain) in
       let long′ : length second ≡ length first = length-set first (3 * t + 1) (h .links) in
@@ -71,7 +71,7 @@ module _ (s : List ℕ) (t : ℕ) (h : Height) where
       outside-trans (outside-trans (wide _ _ _ (omega arith)) (wide _ _ _ (omega arith))) (wide _ _ _ (omega arith))
 
 module _ (image : List ℕ) where
-  elsewhere : (s : List ℕ) (t u : ℕ) → (u ≡ t → ⊥) → heightAt (measured image s t) u ≡ heightAt s u
+  pub elsewhere : (s : List ℕ) (t u : ℕ) → (u ≡ t → ⊥) → heightAt (measured image s t) u ≡ heightAt s u
   unfolding measured
   elsewhere s t u ne = stored-elsewhere s t _ u ne
 
@@ -197,7 +197,7 @@ module _ {image : List ℕ} (good : Good image) {counts : ℕ → Bool} {limit :
         | no ne ↦ rw (ne-eqb _ _ ne, same (below image r) (record { stands = st; leads = refl; some = ne }))
       ]
 
-  highest-cong : (g h : ℕ → ℕ) (s n : ℕ) → s < countAt image sets → n ≤ setSelections image s .count → ((r t : ℕ) → Link image s r t → g t ≡ h t)
+  pub highest-cong : (g h : ℕ → ℕ) (s n : ℕ) → s < countAt image sets → n ≤ setSelections image s .count → ((r t : ℕ) → Link image s r t → g t ≡ h t)
       → highest image counts limit g s n ≡ highest image counts limit h s n
   unfolding highest
   highest-cong g h s zero l m same = refl

@@ -2,6 +2,8 @@
 pub mod Chains
 pub mod Heights
 pub mod Rounds
+pub mod Order
+pub mod Rise
 pub mod Rules
 pub mod Walks
 pub mod Meaning

@@ -1,16 +1,18 @@
--- The walk over reached sets in the lent words behind the heights: what may change there, and what it leaves.
+-- The lent words behind the heights: what may change there, and what an order of the sets or a walk over reached sets leaves.
 -- Assumes nothing.
 use Prim.Native.Nat.{ℕ, _*_, _<_, _≤_}
+use mathlib.Core.Path.{_≡_}
+use mathlib.Core.Bool.{false}
 use mathlib.Core.List.{List}
 use lib.ListN.{length}
 use Rattle.lists.specs.Part.{Stores, Outside}
-use Rattle.tables.specs.Layout.{sets}
+use Rattle.tables.specs.Layout.{fragments, sets}
 use Rattle.tables.specs.Image.{countAt}
 use Rattle.tables.specs.Good.{Good}
 use Rattle.tables.specs.declared.Range.{Range}
 use Rattle.variable.specs.Reach.{reachedFrom}
 use Rattle.fragment.specs.Rounds.{Measured}
-use Rattle.fragment.specs.Rules.{fragmentsWords}
+use Rattle.fragment.specs.Rules.{fragmentsWords, reachesItself}
 
 -- where the words of the walk begin
 abbrev pub behind : List ℕ → ℕ
@@ -29,3 +31,8 @@ pub record Ready (image s : List ℕ) : Type 0 where
   pub good : Good image
   pub room : fragmentsWords image ≤ length s
   pub heights : (t : ℕ) → t < countAt image sets → Measured image s t
+
+-- the sets were measured in an order in which none leads to a later one: so the words hold their heights, and no fragment reaches itself
+pub record InOrder (image s : List ℕ) : Type 0 where
+  pub heights : (t : ℕ) → t < countAt image sets → Measured image s t
+  pub no-cycle : (f : ℕ) → f < countAt image fragments → reachesItself image f ≡ false

@@ -1,6 +1,6 @@
 // The longest ways down from each set, under three weights at once, each cut off one past its limit: spreads (kind 6), links (7)
-// and non-empty field sets (8). The lent words hold three numbers for each set. They are found by rounds over all sets, highest
-// first, until a round changes no fragment's set.
+// and non-empty field sets (8). The lent words hold three numbers for each set. They are found in one pass where the words behind them
+// hold an order in which no set leads to a later one; else by rounds over all sets, highest first, until a round changes no fragment's.
 use lists::clear;
 use lists::get;
 use lists::most;
@@ -17,15 +17,19 @@ use tables::columns::set_selections;
 use tables::count;
 use tables::row_in;
 ghost use mathlib.Core.Path.{_≡_};
+ghost use mathlib.Core.Bool.{true, _&&_};
 ghost use Prim.Native.Nat.{ℕ, _+_, _*_, _≤_, _<_, max};
 ghost use lib.ListN.{length};
 ghost use Rattle.lists.specs.Part.{Outside};
 ghost use Rattle.tables.specs.Layout.{sets};
 ghost use Rattle.tables.specs.Image.{countAt};
+ghost use Rattle.tables.specs.Columns.{setSelections};
 ghost use Rattle.tables.specs.Good.{Good};
 ghost use Rattle.fragment.specs.Chains.{oneIf, isNesting};
 ghost use Rattle.fragment.specs.Heights.{cutOff};
-ghost use Rattle.fragment.specs.Rounds.{heightAt, withHeight, sameHeight, heightBelow, rowHeight, setHeight, measured, changes, sweep, sweepChanges, Measured, SoundHeights};
+ghost use Rattle.fragment.specs.Rounds.{heightAt, withHeight, sameHeight, heightBelow, rowHeight, setHeight, measured, changes, sweep, sweepChanges, Measured};
+ghost use Rattle.fragment.specs.Order.{placeOf, leadsLower, allLower, isInTurn, inTurn};
+ghost use Rattle.fragment.specs.Walks.{InOrder};
 
 pub const MOST_CHAIN: u32 = 100;
 
@@ -37,6 +41,11 @@ pub struct Height {
     pub chain: u32,
     pub links: u32,
     pub nested: u32,
+}
+
+struct Way {
+    height: Height,
+    lower: bool,
 }
 
 // The three numbers of a set.
@@ -143,23 +152,51 @@ fn height_of_selection(image: &[u32], s: &[u32], row: u32) -> Height
     }
 }
 
-// The height of a set by those of the sets below it: the highest way down through one of its selections.
-fn height_of_set(image: &[u32], s: &[u32], set: u32) -> Height
-    ensures { λ r. ⌜ r ≡ setHeight (now (image .entry)) (heightAt (now (s .entry))) set ⌝ }
+// The place of a set in the order behind the heights.
+fn place_of(image: &[u32], s: &[u32], set: u32) -> u32
+    ensures { λ r. ⌜ r ≡ placeOf (now (image .entry)) (now (s .entry)) set ⌝ }
+{
+    get(s, 3 * (count(image, SETS) as usize) + (set as usize))
+}
+
+// Whether a selection leads nowhere, or to a set of a lower place.
+fn leads_lower(image: &[u32], s: &[u32], place: u32, row: u32) -> bool
+    ensures { λ r. ⌜ r ≡ leadsLower (now (image .entry)) (now (s .entry)) place row ⌝ }
+{
+    let set = set_below(image, selection_row(image, row));
+    if set == NONE {
+        return true;
+    }
+    place_of(image, s, set) < place
+}
+
+fn and(a: bool, b: bool) -> bool
+    ensures { λ r. ⌜ r ≡ (a && b) ⌝ }
+{
+    if a { b } else { false }
+}
+
+// The height of a set by those of the sets below it, the highest way down through one of its selections; and whether all of these lead
+// to lower places than this one.
+fn way_down(image: &[u32], s: &[u32], place: u32, set: u32) -> Way
+    ensures { λ r. ⌜ (r .height ≡ setHeight (now (image .entry)) (heightAt (now (s .entry))) set) × (r .lower ≡ allLower (now (image .entry)) (now (s .entry)) place set (setSelections (now (image .entry)) set .count)) ⌝ }
 {
     let rows = set_selections(image, set);
     let rows_count = rows.count;
-    let mut h = Height {
+    let mut height = Height {
         chain: 0,
         links: 0,
         nested: 0,
     };
+    let mut lower = true;
     let mut i: u32 = 0;
     while i < rows_count {
-        h = higher(h, height_of_selection(image, s, row_in(rows, i)));
+        let row = row_in(rows, i);
+        height = higher(height, height_of_selection(image, s, row));
+        lower = and(lower, leads_lower(image, s, place, row));
         i += 1;
     }
-    h
+    Way { height, lower }
 }
 
 // One set is measured anew. Whether that changed a fragment's set.
@@ -167,7 +204,8 @@ fn measure_set(image: &[u32], s: &mut [u32], set: u32) -> bool
     ensures { λ r. ⌜ (now (s .exit) ≡ measured (now (image .entry)) (now (s .entry)) set) × (r ≡ changes (now (image .entry)) (now (s .entry)) set) ⌝ }
 {
     let before = height_at(&s[..], set);
-    let after = height_of_set(image, &s[..], set);
+    let way = way_down(image, &s[..], 0, set);
+    let after = way.height;
     store_height(s, set, after);
     if is_fragment_set(image, set) {
         return is_same(before, after) == false;
@@ -191,30 +229,49 @@ fn measure_round(image: &[u32], s: &mut [u32]) -> bool
     changed
 }
 
-// A guess: the sets that a walk put behind the heights are measured, last met first, so that the rounds find little to change. It is
-// for speed alone: whatever words stand there, no height passes the true one.
-fn guess_heights(image: &[u32], s: &mut [u32], queued: u32)
-    ensures { λ _. ⌜ Outside 0 (3 * countAt (now (image .entry)) sets) (now (s .entry)) (now (s .exit)) × (Good (now (image .entry)) → 3 * countAt (now (image .entry)) sets ≤ length (now (s .entry)) → SoundHeights (now (image .entry)) (now (s .entry)) → SoundHeights (now (image .entry)) (now (s .exit))) ⌝ }
+// A set is measured in its turn, if it has this place and leads to lower ones alone. Whether it is so.
+fn measure_in_turn(image: &[u32], s: &mut [u32], place: u32, set: u32) -> bool
+    ensures { λ r. ⌜ (now (s .exit) ≡ inTurn (now (image .entry)) (now (s .entry)) place set) × (r ≡ isInTurn (now (image .entry)) (now (s .entry)) place set) ⌝ }
+{
+    if count(image, SETS) <= set {
+        return false;
+    }
+    if place_of(image, &s[..], set) != place {
+        return false;
+    }
+    let way = way_down(image, &s[..], place, set);
+    if way.lower {
+        let height = way.height;
+        store_height(s, set, height);
+        return true;
+    }
+    false
+}
+
+// All sets, each in its turn. Whether that went well: then all is settled, and no fragment reaches itself.
+pub fn measure_in_order(image: &[u32], s: &mut [u32]) -> bool
+    ensures { λ r. ⌜ Outside 0 (3 * countAt (now (image .entry)) sets) (now (s .entry)) (now (s .exit)) × (r ≡ true → Good (now (image .entry)) → 5 * countAt (now (image .entry)) sets ≤ length (now (s .entry)) → InOrder (now (image .entry)) (now (s .exit))) ⌝ }
 {
     let known = count(image, SETS);
-    let queue = 4 * (known as usize);
-    let mut left = queued;
-    while 0 < left {
-        left -= 1;
-        let set = get(&s[..], queue + (left as usize));
-        if set < known {
-            measure_set(image, s, set);
+    clear(s, 0, 3 * (known as usize));
+    let mut placed: u32 = 0;
+    while placed < known {
+        let place = placed + 1;
+        let set = get(&s[..], 5 * (known as usize) - (place as usize));
+        if measure_in_turn(image, s, place, set) {
+            placed = place;
+        } else {
+            return false;
         }
     }
+    true
 }
 
 // Rounds until nothing changes. Each settles one more fragment of every chain, so past the limit's number there is no need.
-// A walk may have queued some sets behind the heights.
-pub fn measure_sets(image: &[u32], s: &mut [u32], queued: u32)
+pub fn measure_sets(image: &[u32], s: &mut [u32])
     ensures { λ _. ⌜ Outside 0 (3 * countAt (now (image .entry)) sets) (now (s .entry)) (now (s .exit)) × (Good (now (image .entry)) → 3 * countAt (now (image .entry)) sets ≤ length (now (s .entry)) → (t : ℕ) → t < countAt (now (image .entry)) sets → Measured (now (image .entry)) (now (s .exit)) t) ⌝ }
 {
     clear(s, 0, 3 * (count(image, SETS) as usize));
-    guess_heights(image, s, queued);
     let mut rounds = MOST_CHAIN + 2;
     while 0 < rounds {
         if measure_round(image, s) {

@@ -1,9 +1,14 @@
-// Kinds 5 to 9 in their order. The lent words: three numbers for each set, and behind them the words of the walk over reached sets.
+// Kinds 5 to 9 in their order. The lent words: three numbers for each set, and behind them first the order of the sets, then the words
+// of walks over reached sets.
 use crate::heights::MOST_CHAIN;
 use crate::heights::MOST_LINKS;
 use crate::heights::MOST_NESTED;
 use crate::heights::height_at;
+use crate::heights::measure_in_order;
 use crate::heights::measure_sets;
+use crate::order::order_sets;
+use crate::rise::highest_rise;
+use crate::rise::place_at;
 use lists::clear;
 use tables::FRAGMENTS;
 use tables::OPERATIONS;
@@ -21,6 +26,7 @@ ghost use lib.Dec.{eqb, leb, ltb};
 ghost use lib.ListN.{length, getD};
 ghost use Rattle.lists.specs.Every.{position};
 ghost use Rattle.lists.specs.First.{_▷_};
+ghost use Rattle.lists.specs.Part.{Outside};
 ghost use Rattle.tables.specs.Layout.{operations, fragments, sets};
 ghost use Rattle.tables.specs.Image.{countAt};
 ghost use Rattle.tables.specs.Columns.{fragmentSet};
@@ -28,6 +34,7 @@ ghost use Rattle.tables.specs.Good.{Good};
 ghost use Rattle.variable.specs.Reach.{led};
 ghost use Rattle.fragment.specs.Heights.{mostChain, mostLinks, mostNested};
 ghost use Rattle.fragment.specs.Rounds.{heightAt};
+ghost use Rattle.fragment.specs.Rise.{placeAt, RisesTo};
 ghost use Rattle.fragment.specs.Walks.{behind, HeightsKept, Marked, Ready};
 ghost use Rattle.fragment.specs.Rules.{operationSets, fragmentsShow, reachesItself, isUnused, cycleFault, chainFault, linksFault, nestingFault, fragmentsFault, fragmentsWords, cleared};
 
@@ -44,16 +51,26 @@ fn walk_start(image: &[u32]) -> usize
     3 * (count(image, SETS) as usize)
 }
 
-// The walk over the sets that a range reaches, in the words behind the heights. Gives how many are queued there.
-fn walk_behind(image: &[u32], s: &mut [u32], sets: Range) -> u32
+// The order of the sets, in the words behind the heights.
+fn order_behind(image: &[u32], s: &mut [u32])
+    ensures { λ _. ⌜ HeightsKept (now (image .entry)) (now (s .entry)) (now (s .exit)) ⌝ }
+{
+    let start = walk_start(image);
+    let end = start + 2 * (count(image, SETS) as usize);
+    if end <= s.len() {
+        order_sets(image, &mut s[start..end]);
+    }
+}
+
+// The walk over the sets that a range reaches, in the same words.
+fn walk_behind(image: &[u32], s: &mut [u32], sets: Range)
     ensures { λ _. ⌜ HeightsKept (now (image .entry)) (now (s .entry)) (now (s .exit)) × (fragmentsWords (now (image .entry)) ≤ length (now (s .entry)) → Marked (now (image .entry)) «sets» (now (s .exit))) ⌝ }
 {
     let start = walk_start(image);
     let end = start + 2 * (count(image, SETS) as usize);
     if end <= s.len() {
-        return walk_selections_with_deduped_fragments(image, &mut s[start..end], sets);
+        walk_selections_with_deduped_fragments(image, &mut s[start..end], sets);
     }
-    0
 }
 
 // Whether the walk met a spread of the fragment.
@@ -76,34 +93,55 @@ fn is_chain_long(image: &[u32], s: &[u32], fragment: u32) -> bool
     MOST_CHAIN <= h.chain
 }
 
-// Whether a fragment reaches itself. Only one with a long chain can.
-fn reaches_itself(image: &[u32], s: &mut [u32], fragment: u32) -> bool
-    ensures { λ r. ⌜ HeightsKept (now (image .entry)) (now (s .entry)) (now (s .exit)) × (Ready (now (image .entry)) (now (s .entry)) → fragment < countAt (now (image .entry)) fragments → r ≡ reachesItself (now (image .entry)) fragment) ⌝ }
+// Whether a fragment reaches itself. One whose place lies above the highest rise does not; of the others a walk from its set says it.
+fn reaches_itself(image: &[u32], s: &mut [u32], rise: u32, fragment: u32) -> bool
+    ensures { λ r. ⌜ HeightsKept (now (image .entry)) (now (s .entry)) (now (s .exit)) × (Good (now (image .entry)) → fragmentsWords (now (image .entry)) ≤ length (now (s .entry)) → RisesTo (now (image .entry)) (placeAt (now (image .entry)) (now (s .entry))) rise → fragment < countAt (now (image .entry)) fragments → r ≡ reachesItself (now (image .entry)) fragment) ⌝ }
 {
-    if is_chain_long(image, &s[..], fragment) {
-        let start = Range {
-            first: fragment_set(image, fragment),
-            count: 1,
-        };
-        walk_behind(image, s, start);
-        return is_marked(image, &s[..], fragment);
+    let set = fragment_set(image, fragment);
+    if rise < place_at(image, &s[..], set) {
+        return false;
     }
-    false
+    let start = Range {
+        first: set,
+        count: 1,
+    };
+    walk_behind(image, s, start);
+    is_marked(image, &s[..], fragment)
 }
 
-// Kind 5: the lowest fragment that reaches itself; their count where there is none.
-fn validate_fragment_cycles(image: &[u32], s: &mut [u32]) -> u32
-    ensures { λ r. ⌜ HeightsKept (now (image .entry)) (now (s .entry)) (now (s .exit)) × (Ready (now (image .entry)) (now (s .entry)) → r ≡ position (countAt (now (image .entry)) fragments) (reachesItself (now (image .entry)))) ⌝ }
+// The lowest fragment that reaches itself; their count where there is none.
+fn lowest_cyclic(image: &[u32], s: &mut [u32], rise: u32) -> u32
+    ensures { λ r. ⌜ HeightsKept (now (image .entry)) (now (s .entry)) (now (s .exit)) × (Good (now (image .entry)) → fragmentsWords (now (image .entry)) ≤ length (now (s .entry)) → RisesTo (now (image .entry)) (placeAt (now (image .entry)) (now (s .entry))) rise → r ≡ position (countAt (now (image .entry)) fragments) (reachesItself (now (image .entry)))) ⌝ }
 {
     let fragments = count(image, FRAGMENTS);
     let mut fragment: u32 = 0;
     while fragment < fragments {
-        if reaches_itself(image, s, fragment) {
+        if reaches_itself(image, s, rise, fragment) {
             return fragment;
         }
         fragment += 1;
     }
     fragments
+}
+
+// The order of the sets, in words that walks leave alone.
+fn order_in_front(image: &[u32], s: &mut [u32])
+    ensures { λ _. ⌜ Outside 0 (fragmentsWords (now (image .entry))) (now (s .entry)) (now (s .exit)) ⌝ }
+{
+    let start = count(image, SETS) as usize;
+    let end = start + 2 * start;
+    if end <= s.len() {
+        order_sets(image, &mut s[start..end]);
+    }
+}
+
+// Kind 5: the lowest fragment that reaches itself; their count where there is none.
+fn validate_fragment_cycles(image: &[u32], s: &mut [u32]) -> u32
+    ensures { λ r. ⌜ Outside 0 (fragmentsWords (now (image .entry))) (now (s .entry)) (now (s .exit)) × (Good (now (image .entry)) → fragmentsWords (now (image .entry)) ≤ length (now (s .entry)) → r ≡ position (countAt (now (image .entry)) fragments) (reachesItself (now (image .entry)))) ⌝ }
+{
+    order_in_front(image, s);
+    let rise = highest_rise(image, &s[..]);
+    lowest_cyclic(image, s, rise)
 }
 
 // Kind 6: the lowest fragment from which a long chain starts.
@@ -169,25 +207,9 @@ fn validate_fragments_used(image: &[u32], s: &[u32]) -> u32
     fragments
 }
 
-// Kinds 5 and 6, of sets that are measured. Where neither is found, no word has changed.
-fn validate_chained(image: &[u32], s: &mut [u32]) -> Fragments
-    ensures { λ r. ⌜ HeightsKept (now (image .entry)) (now (s .entry)) (now (s .exit)) × (Ready (now (image .entry)) (now (s .entry)) → fragmentsShow r ≡ (cycleFault (now (image .entry)) ▷ chainFault (now (image .entry)))) × (fragmentsShow r ≡ none → now (s .exit) ≡ now (s .entry)) ⌝ }
-{
-    let fragments = count(image, FRAGMENTS);
-    let chained = validate_chains(image, &s[..]);
-    if fragments <= chained {
-        return Fragments::Good;
-    }
-    let cyclic = validate_fragment_cycles(image, s);
-    if cyclic < fragments {
-        return Fragments::Wrong(5, 0, cyclic);
-    }
-    Fragments::Wrong(6, 0, chained)
-}
-
 // Kinds 7 and 8, of sets that are measured, where no chain is long.
 fn validate_operations(image: &[u32], s: &[u32]) -> Fragments
-    ensures { λ r. ⌜ (Ready (now (image .entry)) (now (s .entry)) → (cycleFault (now (image .entry)) ▷ chainFault (now (image .entry))) ≡ none → fragmentsShow r ≡ (linksFault (now (image .entry)) ▷ nestingFault (now (image .entry)))) ⌝ }
+    ensures { λ r. ⌜ (Ready (now (image .entry)) (now (s .entry)) → chainFault (now (image .entry)) ≡ none → fragmentsShow r ≡ (linksFault (now (image .entry)) ▷ nestingFault (now (image .entry)))) ⌝ }
 {
     let operations = count(image, OPERATIONS);
     let linked = validate_links(image, s);
@@ -201,18 +223,26 @@ fn validate_operations(image: &[u32], s: &[u32]) -> Fragments
     Fragments::Good
 }
 
-// Kinds 5 to 9, of sets that are measured, with the marks of the walk from all operations behind them.
-fn validate_measured(image: &[u32], s: &mut [u32]) -> Fragments
-    ensures { λ r. ⌜ HeightsKept (now (image .entry)) (now (s .entry)) (now (s .exit)) × (Ready (now (image .entry)) (now (s .entry)) → Marked (now (image .entry)) (operationSets (now (image .entry))) (now (s .entry)) → fragmentsShow r ≡ fragmentsFault (now (image .entry))) ⌝ }
+// Kinds 6 to 8, of sets that are measured, where no fragment reaches itself.
+fn validate_limits(image: &[u32], s: &[u32]) -> Fragments
+    ensures { λ r. ⌜ (Ready (now (image .entry)) (now (s .entry)) → fragmentsShow r ≡ (chainFault (now (image .entry)) ▷ (linksFault (now (image .entry)) ▷ nestingFault (now (image .entry))))) ⌝ }
 {
-    let chained = validate_chained(image, s);
-    let Fragments::Good = chained else {
-        return chained;
+    let chained = validate_chains(image, s);
+    if chained < count(image, FRAGMENTS) {
+        return Fragments::Wrong(6, 0, chained);
+    }
+    validate_operations(image, s)
+}
+
+// Kinds 6 to 9, of sets that are measured, where no fragment reaches itself.
+fn validate_measured(image: &[u32], s: &mut [u32]) -> Fragments
+    ensures { λ r. ⌜ HeightsKept (now (image .entry)) (now (s .entry)) (now (s .exit)) × (Ready (now (image .entry)) (now (s .entry)) → cycleFault (now (image .entry)) ≡ none → fragmentsShow r ≡ fragmentsFault (now (image .entry))) ⌝ }
+{
+    let limits = validate_limits(image, &s[..]);
+    let Fragments::Good = limits else {
+        return limits;
     };
-    let operations = validate_operations(image, &s[..]);
-    let Fragments::Good = operations else {
-        return operations;
-    };
+    walk_behind(image, s, operation_sets(image));
     let unused = validate_fragments_used(image, &s[..]);
     if unused < count(image, FRAGMENTS) {
         return Fragments::Wrong(9, 0, unused);
@@ -220,13 +250,34 @@ fn validate_measured(image: &[u32], s: &mut [u32]) -> Fragments
     Fragments::Good
 }
 
+// Kinds 5 to 9, where the order did not settle it: fragments are tested for a cycle, and the sets are measured by rounds.
+fn validate_unordered(image: &[u32], s: &mut [u32]) -> Fragments
+    ensures { λ r. ⌜ Outside 0 (fragmentsWords (now (image .entry))) (now (s .entry)) (now (s .exit)) × (Good (now (image .entry)) → fragmentsWords (now (image .entry)) ≤ length (now (s .entry)) → fragmentsShow r ≡ fragmentsFault (now (image .entry))) ⌝ }
+{
+    let cyclic = validate_fragment_cycles(image, s);
+    if cyclic < count(image, FRAGMENTS) {
+        return Fragments::Wrong(5, 0, cyclic);
+    }
+    measure_sets(image, s);
+    validate_measured(image, s)
+}
+
+// Kinds 5 to 9, in the order of the sets if that will do.
+fn validate_sets(image: &[u32], s: &mut [u32]) -> Fragments
+    ensures { λ r. ⌜ Outside 0 (fragmentsWords (now (image .entry))) (now (s .entry)) (now (s .exit)) × (Good (now (image .entry)) → fragmentsWords (now (image .entry)) ≤ length (now (s .entry)) → fragmentsShow r ≡ fragmentsFault (now (image .entry))) ⌝ }
+{
+    order_behind(image, s);
+    if measure_in_order(image, s) {
+        return validate_measured(image, s);
+    }
+    validate_unordered(image, s)
+}
+
 // Kinds 5 to 9 of a good image. What the lent words held changes nothing; the needed ones end as 0, the rest are as before.
 pub fn validate_fragments(image: &[u32], s: &mut [u32]) -> Fragments
     ensures { λ r. ⌜ (now (s .exit) ≡ cleared (now (s .entry)) (fragmentsWords (now (image .entry)))) × (Good (now (image .entry)) → fragmentsWords (now (image .entry)) ≤ length (now (s .entry)) → fragmentsShow r ≡ fragmentsFault (now (image .entry))) ⌝ }
 {
-    let queued = walk_behind(image, s, operation_sets(image));
-    measure_sets(image, s, queued);
-    let answer = validate_measured(image, s);
+    let answer = validate_sets(image, s);
     clear(s, 0, 5 * (count(image, SETS) as usize));
     answer
 }

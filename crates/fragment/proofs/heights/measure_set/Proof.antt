@@ -7,14 +7,14 @@ use Rattle.fragment.proofs.heights.measure_set.Tie as tie
 
 returns : tie.Need-returns
 returns c =
-    let was = c .before .before .before .before .before .before .before .before .before .height-at .ensures in
-    let is = c .before .before .before .before .before .before .before .height-of-set .ensures in
+    let was = c .before .before .before .before .before .before .before .before .before .before .height-at .ensures in
+    let is = c .before .before .before .before .before .before .before .before .way-down .ensures .0 in
     (set-measured _ _ _ was is (cc), fragment-changes _ _ _ was is (sym (c .before .before .is-fragment-set .ensures) ∙ c .before .if1 .taken) (c .is-same .ensures))
 
 returns-2 : tie.Need-returns-2
 returns-2 c =
-    let was = c .before .before .before .before .before .before .before .before .height-at .ensures in
-    let is = c .before .before .before .before .before .before .height-of-set .ensures in
+    let was = c .before .before .before .before .before .before .before .before .before .height-at .ensures in
+    let is = c .before .before .before .before .before .before .before .way-down .ensures .0 in
     (set-measured _ _ _ was is (cc), others-do-not _ _ _ was is (sym (c .before .is-fragment-set .ensures) ∙ c .if1 .left))
 
 pub measure-set-spec : {M : Type 1} → statement M

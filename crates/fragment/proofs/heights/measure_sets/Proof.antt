@@ -23,10 +23,10 @@ use Rattle.fragment.proofs.heights.measure_sets.Statement.{statement}
 use Rattle.fragment.proofs.heights.measure_sets.Tie as tie
 
 abbrev Inv-loop : tie.InvT-loop
-Inv-loop image s₀ queued rounds₀ s rounds = (rounds ≤ (mostChain + 2)) × Outside 0 (3 * countAt image sets) s₀ s × (Good image → 3 * countAt image sets ≤ length s₀ → Known image 0 s₀ → Known image ((mostChain + 2) - rounds) s)
+Inv-loop image s₀ rounds₀ s rounds = (rounds ≤ (mostChain + 2)) × Outside 0 (3 * countAt image sets) s₀ s × (Good image → 3 * countAt image sets ≤ length s₀ → Known image 0 s₀ → Known image ((mostChain + 2) - rounds) s)
 
 abbrev μ-loop : tie.MeasureT-loop
-μ-loop image s₀ queued rounds₀ s rounds = rounds
+μ-loop image s₀ rounds₀ s rounds = rounds
 
 -- a turn: one round more, or all is settled
 module _ (image : List ℕ) {s₀ s s′ : List ℕ} {rounds : ℕ} (some : 0 < rounds) (few : rounds ≤ (mostChain + 2)) (outside : Outside 0 (3 * countAt image sets) s₀ s) (round : s′ ≡ sweep image s (countAt image sets)) where
@@ -77,23 +77,22 @@ loop-again-2 c =
 
 same-length : tie.Need-same-length Inv-loop μ-loop
 same-length c =
-    let a = c .before .before .before .before .before .before .before .before .before .before .before .before .before .args in
-    c .before .loop .inv .1 .long ∙ c .before .before .before .before .guess-heights .ensures .0 .long ∙ cleared-outside (now (a .s)) _ (c .before .before .before .before .before .before .before .before .clear .ensures) refl .long
+    let a = c .before .before .before .before .before .before .before .before .before .args in
+    c .before .loop .inv .1 .long ∙ cleared-outside (now (a .s)) _ (c .before .before .before .before .clear .ensures) refl .long
 
 returns : tie.Need-returns Inv-loop μ-loop
 returns c =
-    let a = c .before .before .before .before .before .before .before .before .before .before .before .before .before .args in
+    let a = c .before .before .before .before .before .before .before .before .before .args in
     let l = c .before .loop in
-    let n = c .before .before .before .before .before .before .before .before .before .count .ensures in
-    let cleared = c .before .before .before .before .before .before .before .before .clear .ensures in
-    let guessed = c .before .before .before .before .guess-heights .ensures in
+    let n = c .before .before .before .before .before .count .ensures in
+    let cleared = c .before .before .before .before .clear .ensures in
     let last : l .rounds ≡ 0 = omega arith in
-    let size : 3 * c .before .before .before .before .before .before .before .before .before .count .result ≡ 3 * countAt (now (a .image)) sets = omega arith in
+    let size : 3 * c .before .before .before .before .before .count .result ≡ 3 * countAt (now (a .image)) sets = omega arith in
     let before = cleared-outside (now (a .s)) _ cleared size in (
-      outside-trans (outside-trans before (guessed .0)) (l .inv .1),
+      outside-trans before (l .inv .1),
       λ good room t h.
-          let sound = guessed .1 good (omega (arith, before .long)) (cleared-sound _ _ (all-cleared (now (a .s)) _ cleared size (omega arith))) in
-          known-last _ good _ (rw last at (l .inv .2 good (omega (arith, before .long, guessed .0 .long)) (known-first _ _ sound))) t h,
+          let sound = cleared-sound _ _ (all-cleared (now (a .s)) _ cleared size (omega arith)) in
+          known-last _ good _ (rw last at (l .inv .2 good (omega (arith, before .long)) (known-first _ _ sound))) t h,
     )
 
 pub measure-sets-spec : {M : Type 1} → statement M
@@ -105,7 +104,6 @@ measure-sets-spec =
     (λ c κs. search needs)
     cast-clear
     mul-clear
-    (λ c κs. search needs)
     (λ c κs. search needs)
     add-rounds
     loop-holds

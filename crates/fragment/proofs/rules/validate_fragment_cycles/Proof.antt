@@ -1,71 +1,24 @@
--- `rules::validate_fragment_cycles` meets its contract. The loop's invariant: none of those passed fails. Assumes nothing.
-use mathlib.Core.Path.{_≡_, sym, _∙_}
-use borrow.Author.Count.{below-none, below-more}
-use Prim.Native.Nat.{ℕ, _-_, _<_, _≤_}
+-- `rules::validate_fragment_cycles` meets its contract. Assumes nothing.
 use borrow.Author.Needs.{needs}
-use mathlib.Core.Bool.{false}
 use native.Mathlib.Omega.{arith}
-use Rattle.fragment.specs.Walks.{HeightsKept, Ready}
-use Rattle.fragment.proofs.RuleLaws.{stops-at, stops-nowhere}
-use Rattle.fragment.proofs.Behind.{ready-still}
-use Rattle.fragment.specs.Rules.{reachesItself}
-use Rattle.lists.proofs.Parts.{outside-none, outside-trans}
+use Rattle.lists.proofs.Parts.{outside-trans}
+use Rattle.fragment.proofs.Behind.{behind-within}
+use Rattle.fragment.proofs.Rising.{risen}
 use Rattle.fragment.proofs.rules.validate_fragment_cycles.Statement.{statement}
 use Rattle.fragment.proofs.rules.validate_fragment_cycles.Tie as tie
 
-abbrev Inv-loop : tie.InvT-loop
-Inv-loop image s₀ fragments fragment₀ s fragment = (fragment ≤ fragments) × HeightsKept image s₀ s × (Ready image s₀ → (k : ℕ) → k < fragment → reachesItself image k ≡ false)
-
-abbrev μ-loop : tie.MeasureT-loop
-μ-loop image s₀ fragments fragment₀ s fragment = fragments - fragment
-
-loop-holds : tie.Need-loop-holds Inv-loop μ-loop
-loop-holds c = (omega arith, outside-none _ _ _, λ ready. below-none _)
-
-same-length : tie.Need-same-length Inv-loop μ-loop
-same-length c = c .before .before .before .reaches-itself .ensures .0 .long ∙ c .before .before .before .before .before .before .loop .inv .1 .long
-
-returns : tie.Need-returns Inv-loop μ-loop
+returns : tie.Need-returns
 returns c =
-    let l = c .before .before .before .before .before .before .loop in
-    let n = c .before .before .before .before .before .before .before .count .ensures in
-    let e = c .before .before .before .reaches-itself .ensures in
-    (outside-trans (l .inv .1) (e .0), λ ready. stops-at _ _ n (l .fragment) (omega arith) (l .inv .2 ready) (sym (e .1 (ready-still (l .inv .1) ready) (omega arith)) ∙ c .if1 .taken))
-
-add-fragment : tie.Need-add-fragment Inv-loop μ-loop
-add-fragment c = omega arith
-
-loop-less : tie.Need-loop-less Inv-loop μ-loop
-loop-less c = omega arith
-
-loop-again : tie.Need-loop-again Inv-loop μ-loop
-loop-again c =
-    let l = c .before .before .before .before .before .before .loop in
-    let n = c .before .before .before .before .before .before .before .count .ensures in
-    let e = c .before .before .before .reaches-itself .ensures in
-    (omega arith, outside-trans (l .inv .1) (e .0), λ ready. below-more _ (l .fragment) (l .inv .2 ready) (sym (e .1 (ready-still (l .inv .1) ready) (omega arith)) ∙ c .if1 .left))
-
-same-length-2 : tie.Need-same-length-2 Inv-loop μ-loop
-same-length-2 c = c .before .loop .inv .1 .long
-
-returns-2 : tie.Need-returns-2 Inv-loop μ-loop
-returns-2 c =
-    let l = c .before .loop in
-    (l .inv .1, λ ready. stops-nowhere _ _ (c .before .before .count .ensures) (λ k h. l .inv .2 ready k (omega arith)))
+    let o = c .before .before .before .before .before .before .before .before .order-in-front .ensures in
+    let e = c .before .before .lowest-cyclic .ensures in
+    (outside-trans o (behind-within _ (e .0)), λ good room. e .1 good (omega (arith, o .long)) (risen _ _ good (c .before .before .before .before .highest-rise .ensures)))
 
 pub validate-fragment-cycles-spec : {M : Type 1} → statement M
 validate-fragment-cycles-spec =
     tie.close
     (tie.spec
-    Inv-loop
-    μ-loop
     (λ c κs. search needs)
-    loop-holds
     (λ c κs. search needs)
-    same-length
-    returns
-    add-fragment
-    loop-less
-    loop-again
-    same-length-2
-    returns-2)
+    (λ c κs. search needs)
+    (λ c. search needs)
+    returns)
