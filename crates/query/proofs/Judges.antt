@@ -27,7 +27,8 @@ use Rattle.fragment.specs.declared.rules.Fragments.{Fragments}
 use Rattle.fragment.specs.declared.rules.Fragments.the-variants as fragments
 use Rattle.selection.specs.declared.arena.Reply.{Reply}
 use Rattle.selection.specs.Regions.{arenaOf}
-use Rattle.selection.proofs.StepLaws.{places}
+use Rattle.selection.proofs.StepLaws.{places, links-fit}
+use Rattle.selection.proofs.StandLaws.{in-front}
 use Rattle.query.specs.Needed.{mostWork, scratchNeeded}
 use Rattle.query.specs.Reply.{answer, ofImage, ofFragments, orElse, refused, faulty, operationsFrom, reply, scratchAfter}
 use Rattle.query.specs.Refusing.{refusedShows}
@@ -48,11 +49,11 @@ module _ {image : List ℕ} {work : ℕ} where
     unfolding scratchNeeded
     covers-fragments = omega (arith, fits .room, nine-counts image)
 
-    pub covers-operations : usesWords image + (arenaOf image .store + work + 1 + countAt image selections) ≤ length s
+    pub covers-operations : usesWords image + (arenaOf image work .store + work + 1 + countAt image selections) ≤ length s
     unfolding scratchNeeded
     covers-operations =
-        let at = places {image = image} {arena = arenaOf image} (fits .good) refl in
-        omega (arith, fits .room, nine-counts image, at .marks, at .queue, at .store)
+        let at = places {image = image} {arena = arenaOf image work} work (fits .good) refl in
+        omega (arith, fits .room, nine-counts image, in-front at, at .queue, at .lasts, at .links, links-fit {image = image} {arena = arenaOf image work} work (fits .good) refl (fits .limit))
 
     module _ {s′ : List ℕ} (f : Fragments) (same : s′ ≡ fragment.cleared s (fragment.fragmentsWords image))
         (shows : Good image → fragment.fragmentsWords image ≤ length s → fragment.fragmentsShow f ≡ fragment.fragmentsFault image) where

@@ -16,11 +16,11 @@ use Rattle.variable.specs.declared.rules.Usage.{Usage}
 use Rattle.variable.specs.declared.rules.Usage.the-variants as usage
 use Rattle.selection.specs.declared.arena.Reply.{Reply}
 use Rattle.selection.specs.Regions.{arenaOf}
-use Rattle.selection.specs.Parents.{Parents}
+use Rattle.selection.specs.Classes.{Prepared, Prepares}
 use Rattle.selection.specs.Validating.{Checkable, Validates}
-use Rattle.selection.specs.ImageDocument.{documentBy}
-use Rattle.selection.proofs.StepLaws.{places}
-use Rattle.query.specs.Reply.{answer, documentOf}
+use Rattle.selection.proofs.StepLaws.{places, links-fit}
+use Rattle.selection.proofs.StandLaws.{prepared-kept, in-front}
+use Rattle.query.specs.Reply.{answer}
 use Rattle.query.proofs.Soundness.{operation-sound}
 use Rattle.query.specs.Operation.{operationReply, Ready, Lent, Checked}
 
@@ -47,7 +47,7 @@ module _ {image : List ℕ} {work : ℕ} where
   pub lent-kept : {s s′ : List ℕ} → Outside 0 (usesWords image) s s′ → Lent image work s → Lent image work s′
   lent-kept frame lent = record {
     ready = ready-as-long (frame .long) (lent .ready);
-    parents = λ r h. frame .above (usesWords image + r) (omega arith) ∙ lent .parents r h;
+    prepared = prepared-kept (λ k h. getD-drop (usesWords image) _ k 0 ∙ frame .above (usesWords image + k) (omega arith) ∙ sym (getD-drop (usesWords image) _ k 0)) (lent .prepared);
   }
 
   module _ {s s′ : List ℕ} {i : ℕ} {u : Usage} (lent : Lent image work s) (judged : Judged image i s s′ u) where
@@ -62,7 +62,7 @@ module _ {image : List ℕ} {work : ℕ} where
 
     pub by-walk : {used front : ℕ} {r : Reply} (ys : List ℕ) → u ≡ usage.Good → i < countAt image operations → used ≤ work → front ≡ usesWords image
         → Validates image work i used (take (length s′ - front) (drop front s′)) ys r → Checked image work s (take front s′ ++ (ys ++ drop (length s′ - front) (drop front s′))) i used r
-    unfolding operationReply documentBy
+    unfolding operationReply
     by-walk {used} {front} {r} ys good own within e walked =
         let shown : none ≡ usageFault image i = ap usageShows (sym good) ∙ judged .shows room in
         let next = lent-kept (judged .frame) lent in
@@ -70,12 +70,12 @@ module _ {image : List ℕ} {work : ℕ} where
         let fits : front ≤ length s′ = omega (arith, ready .room) in
         let walked′ = rw (behind s′ front) at walked in
         let whole = long-again s′ front fits ys (walked′ .long) in
-        let there : (k : ℕ) → k < countAt image selections → getD (drop front s′) k 0 ≡ documentOf image .parentOf k = λ k h. rw e (getD-drop (usesWords image) s′ k 0 ∙ next .parents k h) in
+        let there : Prepared image (drop front s′) = rw e (next .prepared) in
         let may : Checkable image work i used (drop front s′) = record {
           good = ready .good;
           sound = operation-sound (ready .good) i own (ready .fragments);
           row = own;
-          parents = there;
+          prepared = there;
           room = omega (arith, ready .room, length-drop front s′);
           small = ready .limit;
           within = within;
@@ -85,20 +85,24 @@ module _ {image : List ℕ} {work : ℕ} where
           long = whole ∙ judged .frame .long;
           lent = record {
             ready = ready-as-long whole ready;
-            parents = λ k h. rw (← e) (there-again s′ front fits ys k ∙ walked′ .frame may .below k (omega (arith, places {image = image} {arena = arenaOf image} (ready .good) refl .marks)) ∙ there k h);
+            prepared = rw (← e)
+                (prepared-kept
+                (λ k h. getD-drop front (take front s′ ++ ys) k 0 ∙ there-again s′ front fits ys k ∙ walked′ .frame may .below k (omega (arith, in-front (places {image = image} {arena = arenaOf image work} work (ready .good) refl))))
+                there);
           };
           says = rw (← shown) told;
         }
 
-  -- the parents are written where the walk of each operation reads them
-  pub lent-written : {s : List ℕ} {front : ℕ} (ys : List ℕ) → Ready image work s → front ≡ usesWords image → Parents image (take (length s - front) (drop front s)) ys
+  -- parents and classes are written where the walk of each operation reads them
+  pub lent-written : {s : List ℕ} {front : ℕ} (ys : List ℕ) → Ready image work s → front ≡ usesWords image → Prepares image (take (length s - front) (drop front s)) ys
       → Lent image work (take front s ++ (ys ++ drop (length s - front) (drop front s)))
-  unfolding documentBy
-  lent-written {s} {front} ys ready e parents =
+  lent-written {s} {front} ys ready e prepares =
       let fits : front ≤ length s = omega (arith, ready .room) in
-      let parents′ = rw (behind s front) at parents in
-      let written = parents′ .written (ready .good) (omega (arith, ready .room, length-drop front s)) in
+      let prepares′ = rw (behind s front) at prepares in
+      let r = places {image = image} {arena = arenaOf image work} work (ready .good) refl in
+      let fit = links-fit {image = image} {arena = arenaOf image work} work (ready .good) refl (ready .limit) in
+      let written = prepares′ .prepared (ready .good) (omega (arith, ready .room, length-drop front s, in-front r, r .queue, r .lasts, r .links, fit)) in
       rw (behind-back s front ys) record {
-        ready = ready-as-long (long-again s front fits ys (parents′ .long)) ready;
-        parents = λ k h. rw (← e) (there-again s front fits ys k ∙ written .words k h);
+        ready = ready-as-long (long-again s front fits ys (prepares′ .long)) ready;
+        prepared = rw (← e) (prepared-kept (λ k h. getD-drop front (take front s ++ ys) k 0 ∙ there-again s front fits ys k) written);
       }

@@ -3,7 +3,7 @@ use Prim.Native.Nat.{ℕ, _+_, _≤_, _<_}
 use mathlib.Core.Path.{_≡_}
 use mathlib.Core.List.{List}
 use mathlib.Core.Option.{none}
-use lib.ListN.{length, getD}
+use lib.ListN.{length, drop}
 use Rattle.merge_theory.specs.Walk.{check}
 use Rattle.tables.specs.Layout.{operations, selections}
 use Rattle.tables.specs.Image.{countAt}
@@ -13,6 +13,7 @@ use Rattle.variable.specs.Verdict.{usageFault}
 use Rattle.fragment.specs.Rules as fragment
 use Rattle.selection.specs.declared.arena.Reply.{Reply}
 use Rattle.selection.specs.Regions.{arenaOf}
+use Rattle.selection.specs.Classes.{Prepared}
 use Rattle.selection.specs.Refining.{replyOf}
 use Rattle.query.specs.Needed.{mostWork}
 use Rattle.query.specs.Reply.{documentOf, ofVariables, orElse, operationsFrom}
@@ -29,12 +30,12 @@ module _ (image : List ℕ) (work : ℕ) where
     pub good : Good image
     pub fragments : fragment.fragmentsFault image ≡ none
     pub limit : work ≤ mostWork
-    pub room : usesWords image + (arenaOf image .store + work + 1 + countAt image selections) ≤ length s
+    pub room : usesWords image + (arenaOf image work .store + work + 1 + countAt image selections) ≤ length s
 
-  -- where the parents stand
+  -- where parents and classes stand in front of the walk's words
   pub record Lent (s : List ℕ) : Type 0 where
     pub ready : Ready s
-    pub parents : (r : ℕ) → r < countAt image selections → getD s (usesWords image + r) 0 ≡ documentOf image .parentOf r
+    pub prepared : Prepared image (drop (usesWords image) s)
 
   -- one operation is checked, and the next may be lent the same words
   pub record Checked (s s′ : List ℕ) (i used : ℕ) (r : Reply) : Type 0 where

@@ -1,6 +1,6 @@
 // Kinds 10 to 17, operation by operation.
 use selection::arena::Reply;
-use selection::parents::write_parents;
+use selection::prepare::prepare;
 use selection::walk::validate_operation;
 use tables::OPERATIONS;
 use tables::count;
@@ -63,12 +63,12 @@ fn check_each(image: &[u32], s: &mut [u32], work: u32) -> Reply
     }
 }
 
-// The parents are written once, where the walk of each operation reads them.
+// Parents and classes are written once, where the walk of each operation reads them.
 pub(crate) fn check_operations(image: &[u32], s: &mut [u32], work: u32) -> Reply
     requires { ⌜ Ready (now image) work (now s) ⌝ }
     ensures { λ r. ⌜ CheckedAll (now (image .entry)) work (now (s .entry)) (now (s .exit)) r ⌝ }
 {
     let front = words_needed(image);
-    write_parents(image, &mut s[front..]);
+    prepare(image, &mut s[front..]);
     check_each(image, s, work)
 }

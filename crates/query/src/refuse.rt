@@ -1,6 +1,6 @@
 // Kinds 1 to 3: the header, the budget, the scratch.
 use crate::needed::scratch_needed;
-use selection::walk::MOST_WORK;
+use selection::arena::MOST_WORK;
 use tables::header::Header;
 use tables::header::check_header;
 ghost use mathlib.Core.Path.{_≡_};

@@ -1,6 +1,6 @@
 -- The laws of comparing a field with those of a segment: what is left decides. Assumes nothing.
 use mathlib.Core.Path.{_≡_, refl, sym, ap, _∙_}
-use mathlib.Core.Bool.{Bool}
+use mathlib.Core.Bool.{Bool, true}
 use mathlib.Core.Option.{Option, none, some}
 use mathlib.Core.List.{List, [], _∷_, _++_}
 use Prim.Native.Nat.{ℕ, _+_, _≤_, _<_}
@@ -15,16 +15,14 @@ use Rattle.selection.specs.declared.arena.List as places
 use Rattle.selection.specs.declared.groups.Segment.{Segment}
 use Rattle.selection.specs.declared.groups.Part.{Part}
 use Rattle.selection.specs.Places.{rowIn, onward}
-use Rattle.selection.specs.Grouping.{member, memberPlace, partRows, Grounded, PartAt}
+use Rattle.selection.specs.Grouping.{member, belongs, memberPlace, partRows, Grounded, PartAt}
+use Rattle.selection.specs.Following.{followed, Threaded, Follows}
 use Rattle.selection.specs.Refining.{document, passOf, Holds, Tells}
 use Rattle.selection.specs.Comparing.{kindOfClash, conflicted, ComparesSegment, ComparesPart}
-use Rattle.selection.proofs.PlaceLaws.{seek-ge, Found, filter-here}
-use Rattle.selection.proofs.PartLaws.{member-found}
+use Rattle.selection.proofs.PlaceLaws.{Found, found-here, filter-here, onward-over}
+use Rattle.selection.proofs.PartLaws.{belongs-is, member-found}
+use Rattle.selection.proofs.FollowLaws.{follows}
 use Rattle.selection.proofs.RefineLaws.{some-kind, tells-go, tells-stop}
-
--- a search goes ahead
-pub member-ahead : (image s : List ℕ) (store : ℕ) (g : Segment) (from end : ℕ) {q : ℕ} → q ≡ memberPlace image s store g from end → from ≤ q
-member-ahead image s store g from end e = rw e (seek-ge _ from end)
 
 no-clash : (o : Option Cause) → kindOfClash o ≡ 0 → o ≡ none
 no-clash none e = refl
@@ -50,36 +48,42 @@ pub record Upto (image s : List ℕ) (arena : Arena) (g : Segment) (isShape : Bo
       ≡ against (passOf image isShape .clash) a (filter (member (document image) g) (onward x l at)) ls used
 
 pub record Comparing (image s : List ℕ) (arena : Arena) (g : Segment) (isShape : Bool) (a from end place : ℕ) : Type 0 where
-  pub upto : (x : places.List) (l : List ℕ) → x .end ≡ end → Grounded (document image) image s (arena .store) x l → x .start ≤ from → Upto image s arena g isShape a from place x l
+  pub upto : (x : places.List) (l : List ℕ) → x .end ≡ end → Grounded (document image) image s (arena .store) x l → Follows image s arena g x → x .start ≤ from
+      → (from < x .end → member (document image) g (rowIn s (arena .store) from) ≡ true) → Upto image s arena g isShape a from place x l
 
 module _ {image s : List ℕ} {arena : Arena} {g : Segment} {isShape : Bool} {a from end : ℕ} where
-  pub comparing-first : {place : ℕ} → place ≡ memberPlace image s (arena .store) g from end → Comparing image s arena g isShape a from end place
-  comparing-first {place} e = record {
-    upto = λ x l is G low. record { at = from; low = low; found = member-found G g from low (e ∙ ap (memberPlace image s (arena .store) g from) (sym is)); same = λ ls used. refl };
+  pub comparing-first : Comparing image s arena g isShape a from end from
+  comparing-first = record {
+    upto = λ x l is G F low begins. record { at = from; low = low; found = found-here (G .list) (member (document image) g) from low begins; same = λ ls used. refl };
   }
 
   module _ {place b : ℕ} (c : Comparing image s arena g isShape a from end place) (less : place < end) (row : b ≡ rowIn s (arena .store) place) where
     -- the field at the place is met next
-    turn : (x : places.List) (l : List ℕ) (is : x .end ≡ end) (G : Grounded (document image) image s (arena .store) x l) (low : x .start ≤ from) (ls : List (List ℕ)) (used : ℕ)
+    turn : (x : places.List) (l : List ℕ) (is : x .end ≡ end) (G : Grounded (document image) image s (arena .store) x l) (F : Follows image s arena g x) (low : x .start ≤ from)
+        (begins : from < x .end → member (document image) g (rowIn s (arena .store) from) ≡ true) (ls : List (List ℕ)) (used : ℕ)
         → against (passOf image isShape .clash) a (filter (member (document image) g) (onward x l from)) ls used
         ≡ settle (passOf image isShape .clash a b) a b (against (passOf image isShape .clash) a (filter (member (document image) g) (onward x l (place + 1)))) ls used
     unfolding against
-    turn x l is G low ls used =
-        let u = c .upto x l is G low in
+    turn x l is G F low begins ls used =
+        let u = c .upto x l is G F low begins in
         u .same ls used ∙ rw (u .found .here (omega arith), row)
 
-    pub comparing-next : kindOfClash (passOf image isShape .clash a b) ≡ 0 → {next : ℕ} → next ≡ memberPlace image s (arena .store) g (place + 1) end
+    pub comparing-next : kindOfClash (passOf image isShape .clash a b) ≡ 0 → {next : ℕ} → next ≡ followed s arena (g .kind) place end
         → Comparing image s arena g isShape a from end next
     unfolding settle
     comparing-next quiet {next} e = record {
-      upto = λ x l is G low.
-          let u = c .upto x l is G low in
+      upto = λ x l is G F low begins.
+          let u = c .upto x l is G F low begins in
+          let low-place : x .start ≤ place = omega (arith, u .low, u .found .ahead) in
           let ahead : x .start ≤ place + 1 = omega (arith, u .low, u .found .ahead) in
+          let near : place < x .end = omega arith in
+          let here : belongs image s g (rowIn s (arena .store) place) ≡ true = belongs-is G g place low-place near ∙ u .found .passes near in
+          let found-next : next ≡ memberPlace image s (arena .store) g (place + 1) (x .end) = e ∙ ap (followed s arena (g .kind) place) (sym is) ∙ F place low-place near here in
           record {
             at = place + 1;
             low = ahead;
-            found = member-found G g (place + 1) ahead (e ∙ ap (memberPlace image s (arena .store) g (place + 1)) (sym is));
-            same = λ ls used. turn x l is G low ls used ∙ rw (no-clash (passOf image isShape .clash a b) quiet);
+            found = member-found G g (place + 1) ahead found-next;
+            same = λ ls used. turn x l is G F low begins ls used ∙ rw (no-clash (passOf image isShape .clash a b) quiet);
           };
     }
 
@@ -89,7 +93,7 @@ module _ {image s : List ℕ} {arena : Arena} {g : Segment} {isShape : Bool} {a 
       same = λ e. absurd (stop e);
       known = refl;
       operation = refl;
-      tells = λ l G low ls used h. rw (turn x l is G low ls used) (settled s (arena .store) z kind a b (passOf image isShape .clash a b) _ k stop ls used h);
+      tells = λ l G F low begins ls used h. rw (turn x l is G F low begins ls used) (settled s (arena .store) z kind a b (passOf image isShape .clash a b) _ k stop ls used h);
     }
 
   pub comparing-done : {place : ℕ} → Comparing image s arena g isShape a from end place → end ≤ place → (z : states.Walk) (x : places.List) → x .end ≡ end → ComparesSegment image s arena z x g isShape a from z
@@ -97,7 +101,7 @@ module _ {image s : List ℕ} {arena : Arena} {g : Segment} {isShape : Bool} {a 
     same = λ _. refl;
     known = refl;
     operation = refl;
-    tells = λ l G low ls used h. let u = c .upto x l is G low in rw (u .same ls used, u .found .over (omega arith)) (nothing-left s (arena .store) z (passOf image isShape .clash) a ls used h);
+    tells = λ l G F low begins ls used h. let u = c .upto x l is G F low begins in rw (u .same ls used, u .found .over (omega arith)) (nothing-left s (arena .store) z (passOf image isShape .clash) a ls used h);
   }
 
 -- ---- a part: the front segment behind its first field, then the back segment
@@ -109,8 +113,40 @@ part-head {image} {l = l} {part = part} G p =
     sym (p .fields) ∙ ap (λ m. m ++ filter (member (document image) (part .back)) (onward (part .list) l (part .next)))
     (filter-here (G .list) (member (document image) (part .front)) (part .first) (p .from) (p .below) (p .heads))
 
+-- no field behind the first of the front segment, and none of the back segment
+pub alone-at : {image s : List ℕ} {arena : Arena} {part : Part} {second : ℕ} → second ≡ followed s arena (part .front .kind) (part .first) (part .list .end) → part .list .end ≤ second → part .list .end ≤ part .next
+    → (l rows : List ℕ) → Grounded (document image) image s (arena .store) (part .list) l → Threaded image s arena (part .list) → PartAt (document image) s (arena .store) l part rows
+    → rows ≡ rowIn s (arena .store) (part .first) ∷ []
+unfolding filter
+alone-at {image} {s} {arena} {part} {second} is over past l rows G t p =
+    let here : belongs image s (part .front) (rowIn s (arena .store) (part .first)) ≡ true = belongs-is G (part .front) (part .first) (p .from) (p .below) ∙ p .heads in
+    let F = follows t (document image) (G .objects) (part .front) (p .front-proper) in
+    let found = member-found G (part .front) (part .first + 1) (omega (arith, p .from)) (is ∙ F (part .first) (p .from) (p .below) here) in
+    part-head G p ∙ rw (found .over over, onward-over (G .list) (part .next) past)
+
 module _ {image s : List ℕ} {arena : Arena} {z z₁ : states.Walk} {part : Part} {isShape : Bool} {a : ℕ} (row : a ≡ rowIn s (arena .store) (part .first))
-    (front : ComparesSegment image s arena z (part .list) (part .front) isShape a (part .first + 1) z₁) where
+    {second : ℕ} (second-is : second ≡ followed s arena (part .front .kind) (part .first) (part .list .end))
+    (front : ComparesSegment image s arena z (part .list) (part .front) isShape a second z₁) where
+  module _ (l rows : List ℕ) (G : Grounded (document image) image s (arena .store) (part .list) l) (t : Threaded image s arena (part .list)) (p : PartAt (document image) s (arena .store) l part rows) where
+    front-follows : Follows image s arena (part .front) (part .list)
+    front-follows = follows t (document image) (G .objects) (part .front) (p .front-proper)
+
+    back-follows : Follows image s arena (part .back) (part .list)
+    back-follows = follows t (document image) (G .objects) (part .back) (p .back-proper)
+
+    -- the field behind the first of the front segment
+    found-second : Found (member (document image) (part .front)) (part .list) l (part .first + 1) second (rowIn s (arena .store) second)
+    found-second =
+        let here : belongs image s (part .front) (rowIn s (arena .store) (part .first)) ≡ true = belongs-is G (part .front) (part .first) (p .from) (p .below) ∙ p .heads in
+        member-found G (part .front) (part .first + 1) (omega (arith, p .from)) (second-is ∙ front-follows (part .first) (p .from) (p .below) here)
+
+    low-second : part .list .start ≤ second
+    low-second = omega (arith, p .from, found-second .ahead)
+
+    front-tells : (ls : List (List ℕ)) (used : ℕ) → Holds s (arena .store) (z .reply .operation) z ls used
+        → Tells s (arena .store) (z .reply .operation) z₁ (against (passOf image isShape .clash) a (filter (member (document image) (part .front)) (onward (part .list) l (part .first + 1))) ls used)
+    front-tells ls used h = rw (found-second .same) (front .tells l G front-follows low-second (found-second .passes) ls used h)
+
   -- the two segments in order, from the first field on
   in-order : (l rows : List ℕ) → Grounded (document image) image s (arena .store) (part .list) l → PartAt (document image) s (arena .store) l part rows → (ls : List (List ℕ)) (used : ℕ)
       → compareFirst (passOf image isShape .clash) rows ls used
@@ -127,8 +163,8 @@ module _ {image s : List ℕ} {arena : Arena} {z z₁ : states.Walk} {part : Par
     same = λ e. absurd (stop e);
     known = front .known;
     operation = front .operation;
-    tells = λ l rows G p ls used h.
-        rw (in-order l rows G p ls used) (tells-stop s (arena .store) (z .reply .operation) z₁ _ _ (front .tells l G (omega (arith, p .from)) ls used h) stop);
+    tells = λ l rows G t p ls used h.
+        rw (in-order l rows G p ls used) (tells-stop s (arena .store) (z .reply .operation) z₁ _ _ (front-tells l rows G t p ls used h) stop);
   }
 
   pub part-compared : z₁ .reply .kind ≡ 0 → {z₂ : states.Walk} → ComparesSegment image s arena z₁ (part .list) (part .back) isShape a (part .next) z₂ → ComparesPart image s arena z part isShape z₂
@@ -139,8 +175,8 @@ module _ {image s : List ℕ} {arena : Arena} {z z₁ : states.Walk} {part : Par
         same = back′ .same;
         known = back′ .known;
         operation = back′ .operation;
-        tells = λ l rows G p ls used h.
+        tells = λ l rows G t p ls used h.
             rw (in-order l rows G p ls used)
-            (tells-go s s (arena .store) (z .reply .operation) z z₂ _ _ (rw is at (front .tells l G (omega (arith, p .from)) ls used h)) (rw is at go)
-            (λ ls′ used′ h′. back′ .tells l G (p .behind) ls′ used′ h′));
+            (tells-go s s (arena .store) (z .reply .operation) z z₂ _ _ (rw is at (front-tells l rows G t p ls used h)) (rw is at go)
+            (λ ls′ used′ h′. back′ .tells l G (back-follows l rows G t p) (p .behind) (p .starts) ls′ used′ h′));
       }

@@ -47,7 +47,7 @@ module _ {image : List ℕ} {arena : Arena} {s s′ : List ℕ} {from end : ℕ}
   known-kept above below = stores-same (f .long) (λ k more less. f .known k (omega arith) (omega arith))
 
 -- a set is queued, where the queue has room
-module _ (arena : Arena) (x : Expansion) (s : List ℕ) (t : ℕ) (room : arena .queue + x .queued < arena .store) where
+module _ (arena : Arena) (x : Expansion) (s : List ℕ) (t : ℕ) (room : arena .queue + x .queued < arena .lasts) where
   pub queue-next : queueNext arena x ≡ record { queued = x .queued + 1; listed = x .listed; number = x .number }
   unfolding queueNext
   queue-next = rw (lt-ltb _ _ room)
@@ -56,7 +56,7 @@ module _ (arena : Arena) (x : Expansion) (s : List ℕ) (t : ℕ) (room : arena 
   unfolding queueWords
   queue-words = rw (lt-ltb _ _ room)
 
-  pub queue-stores : {sets : List ℕ} → Stores s (arena .queue) (x .queued) sets → arena .store ≤ length s
+  pub queue-stores : {sets : List ℕ} → Stores s (arena .queue) (x .queued) sets → arena .lasts ≤ length s
       → Stores (queueWords arena x s t) (arena .queue) (x .queued + 1) (sets ++ (t ∷ []))
   queue-stores {sets} r fits = rw queue-words (pushed s (arena .queue) (x .queued) t (omega arith) .words sets r)
 
@@ -66,17 +66,17 @@ module _ (arena : Arena) (x : Expansion) (s : List ℕ) (t : ℕ) (room : arena 
 -- ---- what each way out of the leaves yields
 
 module _ (arena : Arena) (x : Expansion) (s : List ℕ) (t : ℕ) {at : ℕ} (here : at ≡ arena .queue + x .queued) where
-  pub queued-there : {s′ : List ℕ} → at < arena .store → s′ ≡ set s at t
+  pub queued-there : {s′ : List ℕ} → at < arena .lasts → s′ ≡ set s at t
       → (record { queued = x .queued + 1; listed = x .listed; number = x .number } ≡ queueNext arena x) × (s′ ≡ queueWords arena x s t)
   queued-there room put =
-      let fits : arena .queue + x .queued < arena .store = omega arith in
+      let fits : arena .queue + x .queued < arena .lasts = omega arith in
       (sym (queue-next arena x s t fits), put ∙ ap (λ (k : ℕ). set s k t) here ∙ sym (queue-words arena x s t fits))
 
-  pub queue-full : arena .store ≤ at → (x ≡ queueNext arena x) × (s ≡ queueWords arena x s t)
+  pub queue-full : arena .lasts ≤ at → (x ≡ queueNext arena x) × (s ≡ queueWords arena x s t)
   unfolding queueNext queueWords
   queue-full full =
-      let past : arena .store ≤ arena .queue + x .queued = omega arith in
-      let full : ltb (arena .queue + x .queued) (arena .store) ≡ false = le-ltb _ _ past in
+      let past : arena .lasts ≤ arena .queue + x .queued = omega arith in
+      let full : ltb (arena .queue + x .queued) (arena .lasts) ≡ false = le-ltb _ _ past in
       (rw full, rw full)
 
 pub listed-there : (arena : Arena) (x : Expansion) (s : List ℕ) (row : ℕ) {at : ℕ} {s′ : List ℕ} → at ≡ arena .store + x .listed → s′ ≡ set s at row

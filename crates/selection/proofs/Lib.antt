@@ -9,6 +9,11 @@
 --     ExpandWalk    the loop over the queue
 --     KnownLaws     the store of known lists
 --     PlaceLaws     searches for a place of a list
+--     LinkLaws      links between the places of a list
+--     ClassLaws     classes of rows, by name and by name and parent
+--     PrepareLaws   parents and classes, written one after the other
+--     FollowLaws    a link leads where a search would end
+--     StandLaws     a list that stands in the words, with its links
 --     PartLaws      the places of groups and subgroups are those of the merge theory
 --     RefineLaws    steps of the code put together
 --     MeetLaws      merged sets expanded and met
@@ -32,6 +37,11 @@ pub mod StepLaws
 pub mod ExpandWalk
 pub mod KnownLaws
 pub mod PlaceLaws
+pub mod LinkLaws
+pub mod ClassLaws
+pub mod PrepareLaws
+pub mod FollowLaws
+pub mod StandLaws
 pub mod PartLaws
 pub mod RefineLaws
 pub mod MeetLaws

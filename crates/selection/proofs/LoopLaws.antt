@@ -11,21 +11,22 @@ use Rattle.selection.specs.declared.arena.Walk as states
 use Rattle.selection.specs.declared.arena.List as places
 use Rattle.selection.specs.declared.groups.Part.{Part}
 use Rattle.selection.specs.declared.walk.Met.{Met}
-use Rattle.selection.specs.KnownLists.{AtHand}
+use Rattle.selection.specs.Standing.{Stands}
 use Rattle.selection.specs.Grouping.{PartAt}
 use Rattle.selection.specs.Refining.{document, passOf, Ample, Site, Rows, Refines, walkList, onePart, MeetsPart, WalksList}
+use Rattle.selection.proofs.StandLaws.{stands-kept}
 use Rattle.selection.proofs.RefineLaws.{kept-trans, kept-none, by}
-use Rattle.selection.proofs.PassLaws.{stands-kept, walkRest, Progress, progress-turn, progress-stop, progress-end, progress-first}
+use Rattle.selection.proofs.PassLaws.{walkRest, Progress, progress-turn, progress-stop, progress-end, progress-first}
 
 -- the walk of a list, and of a part, for an operation
 abbrev pub WalksAs : List ℕ → Arena → ℕ → ℕ → List ℕ → List ℕ → states.Walk → places.List → Bool → ℕ → states.Walk → Type 0
 WalksAs image arena work op s s′ z x isShape levels z′ =
-    (l : List ℕ) → Site image arena work op s z → AtHand s (arena .store) x l → x .start ≤ x .end → x .end ≤ z .known → Rows image arena work op l
+    (l : List ℕ) → Site image arena work op s z → Stands arena s x l → x .start ≤ x .end → x .end ≤ z .known → Rows image arena work op l
     → Refines image arena work op (walkList image arena work op (passOf image isShape) levels l) s s′ z z′
 
 abbrev StepsAs : List ℕ → Arena → ℕ → ℕ → List ℕ → List ℕ → states.Walk → Part → Bool → ℕ → states.Walk → Type 0
 StepsAs image arena work op s s′ z part isShape levels z′ =
-    (l rows : List ℕ) → Site image arena work op s z → AtHand s (arena .store) (part .list) l → part .list .start ≤ part .list .end
+    (l rows : List ℕ) → Site image arena work op s z → Stands arena s (part .list) l → part .list .start ≤ part .list .end
     → Rows image arena work op l → PartAt (document image) s (arena .store) l part rows → Rows image arena work op rows
     → Refines image arena work op (onePart image arena work op (passOf image isShape) levels rows) s s′ z z′
 
@@ -34,7 +35,7 @@ pub record Stepped (image : List ℕ) (arena : Arena) (work : ℕ) (s s′ : Lis
   pub long : length s′ ≡ length s
   pub operation : z′ .reply .operation ≡ z .reply .operation
   pub ample : z′ .reply .kind ≡ 0 → Ample work 0 z′
-  pub refines : (l rows : List ℕ) → Site image arena work (z .reply .operation) s z → AtHand s (arena .store) (part .list) l → part .list .start ≤ part .list .end
+  pub refines : (l rows : List ℕ) → Site image arena work (z .reply .operation) s z → Stands arena s (part .list) l → part .list .start ≤ part .list .end
       → Rows image arena work (z .reply .operation) l → PartAt (document image) s (arena .store) l part rows → Rows image arena work (z .reply .operation) rows
       → Refines image arena work (z .reply .operation) (onePart image arena work (z .reply .operation) (passOf image isShape) levels rows) s s′ z z′
 
@@ -95,7 +96,7 @@ pub record PassLoop (image : List ℕ) (arena : Arena) (work : ℕ) (s₀ s : Li
   pub long : length s ≡ length s₀
   pub operation : z .reply .operation ≡ z₀ .reply .operation
   pub ample : z .reply .kind ≡ 0 → Ample work 0 z
-  pub walks : (l : List ℕ) → Site image arena work (z₀ .reply .operation) s₀ z₀ → AtHand s₀ (arena .store) x l → x .start ≤ x .end → x .end ≤ z₀ .known → Rows image arena work (z₀ .reply .operation) l
+  pub walks : (l : List ℕ) → Site image arena work (z₀ .reply .operation) s₀ z₀ → Stands arena s₀ x l → x .start ≤ x .end → x .end ≤ z₀ .known → Rows image arena work (z₀ .reply .operation) l
       → (rest : List (List ℕ)) × Left l rest × Progress image arena work (z₀ .reply .operation) (passOf image isShape) levels (passOf image isShape .parts l) s₀ s z₀ z rest
 
 -- a part is walked, and the rest are left
@@ -110,7 +111,7 @@ pub record Opens (image : List ℕ) (arena : Arena) (work op : ℕ) (s s′ : Li
 module _ {image : List ℕ} {arena : Arena} {work : ℕ} {s₀ s : List ℕ} {z₀ z : states.Walk} {x : places.List} {isShape : Bool} {levels : ℕ} {Left : List ℕ → List (List ℕ) → Type 0} where
   pub loop-turn : (Next : List ℕ → List (List ℕ) → Type 0) {s′ : List ℕ} {z′ : states.Walk} {part : Part} → PassLoop image arena work s₀ s z₀ z x isShape levels Left → Ample work 0 z → part .list ≡ x
       → Stepped image arena work s s′ z part isShape levels z′
-      → ((l : List ℕ) (rest : List (List ℕ)) → Site image arena work (z₀ .reply .operation) s z → AtHand s (arena .store) x l → x .start ≤ x .end → x .end ≤ z .known
+      → ((l : List ℕ) (rest : List (List ℕ)) → Site image arena work (z₀ .reply .operation) s z → Stands arena s x l → x .start ≤ x .end → x .end ≤ z .known
       → Rows image arena work (z₀ .reply .operation) l → Left l rest → Opens image arena work (z₀ .reply .operation) s s′ part l rest Next)
       → PassLoop image arena work s₀ s′ z₀ z′ x isShape levels Next
   loop-turn Next {s′} {z′} {part} loop ample is step opens = record {
@@ -120,7 +121,7 @@ module _ {image : List ℕ} {arena : Arena} {work : ℕ} {s₀ s : List ℕ} {z�
     walks = λ l site stands ordered stored listed.
         let (rest, left, g) = loop .walks l site stands ordered stored listed in
         let kept = g .refines .kept in
-        let stands-now = stands-kept kept stands ordered stored in
+        let stands-now = stands-kept site kept listed stands ordered stored in
         let stored-now : x .end ≤ z .known = omega (arith, stored, kept .grows) in
         let o = opens l rest (g .refines .site (ample .going)) stands-now ordered stored-now listed left in
         let r = steps l (o .rows) (g .refines .site (ample .going)) (rw is stands-now) (rw is ordered) listed (o .at) (o .fields) in
@@ -153,7 +154,7 @@ module _ {image : List ℕ} {arena : Arena} {work : ℕ} {s₀ s : List ℕ} {z�
 
   -- what is left, said in another way where the walk goes on
   pub loop-move : (Next : List ℕ → List (List ℕ) → Type 0) → PassLoop image arena work s₀ s z₀ z x isShape levels Left → z .reply .kind ≡ 0
-      → ((l : List ℕ) (rest : List (List ℕ)) → Site image arena work (z₀ .reply .operation) s z → AtHand s (arena .store) x l → Rows image arena work (z₀ .reply .operation) l → Left l rest → Next l rest)
+      → ((l : List ℕ) (rest : List (List ℕ)) → Site image arena work (z₀ .reply .operation) s z → Stands arena s x l → Rows image arena work (z₀ .reply .operation) l → Left l rest → Next l rest)
       → PassLoop image arena work s₀ s z₀ z x isShape levels Next
   loop-move Next loop go moves = record {
     long = loop .long;
@@ -161,7 +162,7 @@ module _ {image : List ℕ} {arena : Arena} {work : ℕ} {s₀ s : List ℕ} {z�
     ample = loop .ample;
     walks = λ l site stands ordered stored listed.
         let (rest, left, g) = loop .walks l site stands ordered stored listed in
-        (rest, moves l rest (g .refines .site go) (stands-kept (g .refines .kept) stands ordered stored) listed left, g);
+        (rest, moves l rest (g .refines .site go) (stands-kept site (g .refines .kept) listed stands ordered stored) listed left, g);
   }
 
 -- the loop begins

@@ -1,8 +1,8 @@
 -- Merged sets that are expanded and met: what that does, and that the merge theory's walk does the same. Assumes nothing.
-use mathlib.Core.Path.{_≡_, refl, ap, _∙_}
+use mathlib.Core.Path.{_≡_, refl, sym, ap, _∙_}
 use mathlib.Core.Bool.{Bool, true, false, false≢true}
 use mathlib.Core.List.{List, [], _∷_, _++_}
-use Prim.Native.Nat.{ℕ, zero, suc, _+_, _≤_}
+use Prim.Native.Nat.{ℕ, zero, suc, _+_, _*_, _≤_, _<_}
 use native.Mathlib.Omega.{arith}
 use lib.Dec.{leb}
 use lib.ListN.{length, getD, length-set}
@@ -14,6 +14,7 @@ use Rattle.merge_theory.specs.Walk.{Pass, walk}
 use Rattle.merge_theory.proofs.Theorems.{expand-queue}
 use Rattle.merge_theory.proofs.ExpandLaws.{expand-at}
 use Rattle.tables.specs.Layout.{selections}
+use Rattle.tables.specs.Image.{countAt}
 use Rattle.selection.specs.declared.arena.Arena.{Arena}
 use Rattle.selection.specs.declared.arena.Walk as states
 use Rattle.selection.specs.declared.arena.List as places
@@ -21,9 +22,12 @@ use Rattle.selection.specs.declared.expand.Expansion.{Expansion}
 use Rattle.selection.specs.declared.walk.Met.{Met}
 use Rattle.selection.specs.Expanding.{Expanded, Listed}
 use Rattle.selection.specs.KnownLists.{AtHand}
-use Rattle.selection.specs.Refining.{document, Holds, Tells, charged, lengthOf, MeetsList, Ample, Begun, Site, Kept, walkList, Meets, Queued, MeetsSets}
+use Rattle.selection.specs.Regions.{Places}
+use Rattle.selection.specs.Standing.{LinkFrame, LinkableBoth, Stood}
+use Rattle.selection.specs.Places.{rowIn}
+use Rattle.selection.specs.Refining.{document, Holds, Tells, charged, lengthOf, MeetsList, Ample, Begun, Site, Rows, Kept, Refines, walkList, Entered, Meets, Queued, MeetsSets}
 use Rattle.selection.proofs.ParentsLaws.{few-rows}
-use Rattle.selection.proofs.StepLaws.{Places, places}
+use Rattle.selection.proofs.StandLaws.{classed-kept, in-front, row-in}
 use Rattle.selection.proofs.ExpandedLaws.{listed-expand, stores-same}
 use Rattle.selection.proofs.RefineLaws.{MetCase, again, refused, stored, met-case, met-done, met-entered}
 
@@ -128,9 +132,9 @@ after-met {s} {s′} {store} {work} {z} {x} {r} m = go (met-case m)
 
 -- ---- merged sets, expanded and met
 
-module _ {image : List ℕ} {arena : Arena} {work : ℕ} {s s₁ s′ : List ℕ} {z : states.Walk} {x : Expansion} {end : ℕ} {m : Met}
+module _ {image : List ℕ} {arena : Arena} {work : ℕ} {s s₁ s₂ : List ℕ} {z : states.Walk} {x : Expansion} {end : ℕ} {m : Met}
     (ample : Ample work 0 z) (begun : Begun z x) (expanded : Expanded image arena s s₁ x end)
-    (met : MeetsList s₁ s′ (arena .store) work (record { reply = z .reply; known = z .known; expansions = x .number }) (record { start = x .listed; end = end }) m)
+    (met : MeetsList s₁ s₂ (arena .store) work (record { reply = z .reply; known = z .known; expansions = x .number }) (record { start = x .listed; end = end }) m)
     (starts : List ℕ) (site : Site image arena work (z .reply .operation) s z) (queued : Queued image arena work (z .reply .operation) s x starts) where
   op : ℕ
   op = z .reply .operation
@@ -142,10 +146,14 @@ module _ {image : List ℕ} {arena : Arena} {work : ℕ} {s s₁ s′ : List ℕ
   at-hand = record { start = x .listed; end = end }
 
   regions : Places image arena
-  regions = places (site .good) (site .regions)
+  regions = site .regions
 
   low : z .known ≤ work
   low = omega (arith, ample .paid, site .within)
+
+  -- the links of what is known stand before the store
+  spread-known : arena .links + 4 * z .known ≤ arena .store
+  spread-known = omega (arith, site .spread, low)
 
   listed : Listed image arena (document image) s s₁ x end starts
   listed = expanded .lists _ _ starts (record {
@@ -174,31 +182,34 @@ module _ {image : List ℕ} {arena : Arena} {work : ℕ} {s s₁ s′ : List ℕ
     reply = h .reply;
   }
 
-  left : After s₁ s′ (arena .store) work z₁ at-hand m
+  left : After s₁ s₂ (arena .store) work z₁ at-hand m
   left = after-met met
 
-  kept : Kept image arena work (z .reply .operation) s s′ z (m .walk)
+  kept : Kept image arena work (z .reply .operation) s s₂ z (m .walk)
   kept = record {
     long = left .long ∙ listed .frame .long;
-    parents = λ k h. left .words k (λ e. omega (arith, regions .queue, regions .store)) ∙ listed .frame .parents k h;
+    parents = λ k h. left .words k (λ e. omega (arith, regions .queue, regions .lasts, regions .links, regions .store)) ∙ listed .frame .parents k h;
+    links = λ k h less. left .words k (λ e. omega (arith, spread-known)) ∙ listed .frame .links k (omega (arith, regions .links)) (omega (arith, spread-known));
     known = λ k h less. left .words k (λ e. omega arith) ∙ listed .frame .known k h (omega (arith, begun .listed));
     beyond = λ k h. left .words k (λ e. omega (arith, low)) ∙ listed .frame .beyond k (omega (arith, listed .most, begun .listed, low));
     grows = left .grows (omega (arith, listed .grows, begun .listed));
   }
 
-  site′ : m .walk .reply .kind ≡ 0 → Site image arena work (z .reply .operation) s′ (m .walk)
-  site′ at-0 = record {
+  site₂ : m .walk .reply .kind ≡ 0 → Site image arena work (z .reply .operation) s₂ (m .walk)
+  site₂ at-0 = record {
     good = site .good;
     regions = site .regions;
+    spread = site .spread;
     sound = site .sound;
-    parents = λ r h. kept .parents r (omega (arith, regions .marks)) ∙ site .parents r h;
+    parents = λ r h. kept .parents r (omega (arith, regions .names, regions .pairs, regions .marks)) ∙ site .parents r h;
+    classes = classed-kept (λ k h. kept .parents k (omega (arith, in-front regions))) (site .classes);
     room = rw (kept .long) (site .room);
-    marks = λ j h. rw (left .expansions, left .words (arena .marks + j) (λ e. omega (arith, regions .queue, regions .store))) (listed .marks j h);
+    marks = λ j h. rw (left .expansions, left .words (arena .marks + j) (λ e. omega (arith, regions .queue, regions .lasts, regions .links, regions .store))) (listed .marks j h);
     within = left .within at-0;
   }
 
   flat-tells : m .deeper ≡ false → (P : Pass) (levels : ℕ) (ls : List (List ℕ)) (used : ℕ) → Holds s (arena .store) (z .reply .operation) z ls used
-      → Tells s′ (arena .store) (z .reply .operation) (m .walk) (walk (document image) P work levels starts ls used)
+      → Tells s₂ (arena .store) (z .reply .operation) (m .walk) (walk (document image) P work levels starts ls used)
   unfolding walk
   flat-tells flat P zero ls used h = tt
   flat-tells flat P (suc levels) ls used h = met-done (z .reply .operation) met l list₁ ls used (holds₁ ls used h) flat (document image) P (walk (document image) P work levels)
@@ -210,31 +221,109 @@ module _ {image : List ℕ} {arena : Arena} {work : ℕ} {s s₁ s′ : List ℕ
   entered-same deeper P (suc levels) ls used h =
       met-entered (z .reply .operation) met l list₁ ls used (holds₁ ls used h) deeper (begun .listed) (listed .grows) .2 (document image) P (walk (document image) P work levels)
 
-  pub sets-met : (P : Pass) → Meets image arena work (z .reply .operation) P (λ levels. walk (document image) P work levels starts) s s′ z m
-  sets-met P = record {
-    done = λ flat levels. record { tells = λ ls used h. flat-tells flat P levels ls used h; site = site′; kept = kept };
-    entered = λ deeper. record {
-      list = l;
-      stands = rw (left .list) (record { rows = stores-same (left .long) (λ k ge less. left .words k (λ e. omega (arith, begun .listed))) (list₁ .rows) });
-      ordered = rw (left .list) (listed .grows);
-      rows = record {
-        fields = expand-at (document image) (site .sound) starts (queued .hand);
-        inside = rw (← is-expand) (listed .rows .fresh .inside);
-        once = rw (← is-expand) (listed .rows .fresh .once);
-      };
-      stored = omega (arith, left .end deeper, ap (λ (k : places.List). k .end) (left .list));
-      site = site′ (left .going deeper);
-      kept = kept;
-      goes = λ ls used h. met-entered (z .reply .operation) met l list₁ ls used (holds₁ ls used h) deeper (begun .listed) (listed .grows) .0;
-      same = entered-same deeper P;
-    };
+  rows-l : Rows image arena work (z .reply .operation) l
+  rows-l = record {
+    fields = expand-at (document image) (site .sound) starts (queued .hand);
+    inside = rw (← is-expand) (listed .rows .fresh .inside);
+    once = rw (← is-expand) (listed .rows .fresh .once);
   }
 
-pub meets-sets : {image : List ℕ} {arena : Arena} {work : ℕ} {s s₁ s′ : List ℕ} {z : states.Walk} {x : Expansion} {end : ℕ} {m : Met}
+  list₂ : AtHand s₂ (arena .store) (m .list) l
+  list₂ = rw (left .list) (record { rows = stores-same (left .long) (λ k ge less. left .words k (λ e. omega (arith, begun .listed))) (list₁ .rows) })
+
+  -- where the list was entered it is linked
+  module _ (deeper : m .deeper ≡ true) where
+    start-is : m .list .start ≡ z .known + 1
+    start-is = ap (λ (k : places.List). k .start) (left .list) ∙ begun .listed
+
+    end-is : m .list .end ≡ end
+    end-is = ap (λ (k : places.List). k .end) (left .list)
+
+    site-met : Site image arena work (z .reply .operation) s₂ (m .walk)
+    site-met = site₂ (left .going deeper)
+
+    fits : m .list .end ≤ work + 1 + countAt image selections
+    fits = omega (arith, end-is, listed .most, begun .listed, low)
+
+    linkable : LinkableBoth arena (countAt image selections) s₂ (m .list)
+    linkable =
+        let row : (p : ℕ) → m .list .start ≤ p → p < m .list .end → rowIn s₂ (arena .store) p < countAt image selections = λ p h less. rows-l .inside _ (row-in site-met list₂ p h less) in
+        record {
+          names = record {
+            rows = row;
+            classes = rw (regions .names) (site-met .classes .names-below);
+            apart = omega (arith, regions .pairs, regions .marks, regions .queue, regions .lasts);
+            before = omega (arith, regions .links);
+            below = omega (arith, fits, site .spread);
+            inside = omega (arith, fits, site-met .room);
+          };
+          pairs = record {
+            rows = row;
+            classes = rw (regions .pairs, regions .names) (site-met .classes .pairs-below);
+            apart = omega (arith, regions .marks, regions .queue, regions .lasts);
+            before = omega (arith, regions .links, regions .small);
+            below = omega (arith, fits, site .spread, regions .small);
+            inside = omega (arith, fits, site-met .room);
+          };
+          small = regions .small;
+        }
+
+  module _ (deeper : m .deeper ≡ true) {s′ : List ℕ} (stood : Stood arena s₂ s′ (m .list)) where
+    abbrev site-now : Site image arena work (z .reply .operation) s₂ (m .walk)
+    site-now = site-met deeper
+
+    framed : LinkFrame arena (m .list .start) s₂ s′
+    framed = stood .frame (countAt image selections) (linkable deeper)
+
+    pub entered-linked : (P : Pass) → Entered image arena work (z .reply .operation) P (λ levels. walk (document image) P work levels starts) s s′ z m
+    entered-linked P = record {
+      list = l;
+      stands = record {
+        rows = record { rows = stores-same (framed .long) (λ k ge less. framed .store k (omega arith)) (list₂ .rows) };
+        names = stood .names (countAt image selections) (linkable deeper);
+        pairs = stood .pairs (countAt image selections) (linkable deeper);
+      };
+      ordered = rw (left .list) (listed .grows);
+      rows = rows-l;
+      stored = omega (arith, left .end deeper, end-is deeper);
+      site = record {
+        good = site .good;
+        regions = site .regions;
+        spread = site .spread;
+        sound = site .sound;
+        parents = λ r h. framed .front r (omega (arith, regions .names, regions .pairs, regions .marks, regions .queue, regions .lasts)) ∙ site-now .parents r h;
+        classes = classed-kept (λ k h. framed .front k (omega (arith, in-front regions, regions .queue, regions .lasts))) (site-now .classes);
+        room = rw (framed .long) (site-now .room);
+        marks = λ j h. rw (framed .front (arena .marks + j) (omega (arith, regions .queue, regions .lasts))) (site-now .marks j h);
+        within = site-now .within;
+      };
+      kept = record {
+        long = framed .long ∙ kept .long;
+        parents = λ k h. framed .front k (omega (arith, regions .queue, regions .lasts)) ∙ kept .parents k h;
+        links = λ k h less. framed .links k h (omega (arith, start-is deeper)) ∙ kept .links k h less;
+        known = λ k h less. framed .store k h ∙ kept .known k h less;
+        beyond = λ k h. framed .store k (omega arith) ∙ kept .beyond k h;
+        grows = kept .grows;
+      };
+      goes = λ ls used h.
+          let was = met-entered (z .reply .operation) met l list₁ ls used (holds₁ ls used h) deeper (begun .listed) (listed .grows) .0 in
+          record { known = record { stored = stores-same (framed .long) (λ k ge less. framed .store k ge) (was .known .stored) }; reply = was .reply };
+      same = entered-same deeper P;
+    }
+
+  pub flat-done : m .deeper ≡ false → {s′ : List ℕ} → s′ ≡ s₂ → (P : Pass) (levels : ℕ) → Refines image arena work (z .reply .operation) (walk (document image) P work levels starts) s s′ z (m .walk)
+  flat-done flat same P levels = rw same (record { tells = λ ls used h. flat-tells flat P levels ls used h; site = site₂; kept = kept })
+
+-- what happens to the words once a list is met
+pub data Linking (arena : Arena) (s s′ : List ℕ) (m : Met) : Type 0 where
+  links-it : m .deeper ≡ true → Stood arena s s′ (m .list) → Linking arena s s′ m
+  leaves-it : m .deeper ≡ false → s′ ≡ s → Linking arena s s′ m
+
+pub meets-sets : {image : List ℕ} {arena : Arena} {work : ℕ} {s s₁ s₂ s′ : List ℕ} {z : states.Walk} {x : Expansion} {end : ℕ} {m : Met}
     → Ample work 0 z → Begun z x → Expanded image arena s s₁ x end
-    → MeetsList s₁ s′ (arena .store) work (record { reply = z .reply; known = z .known; expansions = x .number }) (record { start = x .listed; end = end }) m
-    → MeetsSets image arena work s s′ z x m
-meets-sets {work = work} {z = z} {x = x} ample begun expanded met = record {
+    → MeetsList s₁ s₂ (arena .store) work (record { reply = z .reply; known = z .known; expansions = x .number }) (record { start = x .listed; end = end }) m
+    → Linking arena s₂ s′ m → MeetsSets image arena work s s′ z x m
+meets-sets {image} {arena} {work} {s} {s₂ = s₂} {s′ = s′} {z = z} {x = x} {m = m} ample begun expanded met linking = record {
   operation = after-met met .operation;
   going = after-met met .going;
   ample = ample-met met (record {
@@ -245,5 +334,16 @@ meets-sets {work = work} {z = z} {x = x} ample begun expanded met = record {
     countable = omega (arith, ample .countable, begun .number);
     budget = ample .budget;
   }) (omega (arith, begun .listed));
-  meets = λ P starts site queued. sets-met ample begun expanded met starts site queued P;
+  meets = λ P starts site queued. by-linking linking P starts site queued;
 }
+  where
+    by-linking : Linking arena s₂ s′ m → (P : Pass) (starts : List ℕ) → Site image arena work (z .reply .operation) s z → Queued image arena work (z .reply .operation) s x starts
+        → Meets image arena work (z .reply .operation) P (λ levels. walk (document image) P work levels starts) s s′ z m
+    by-linking (links-it deeper stood) P starts site queued = record {
+      done = λ flat. absurd (false≢true (sym flat ∙ deeper));
+      entered = λ _. entered-linked ample begun expanded met starts site queued deeper stood P;
+    }
+    by-linking (leaves-it flat same) P starts site queued = record {
+      done = λ _ levels. flat-done ample begun expanded met starts site queued flat same P levels;
+      entered = λ deeper. absurd (false≢true (sym flat ∙ deeper));
+    }

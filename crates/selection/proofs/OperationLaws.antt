@@ -20,17 +20,17 @@ use Rattle.selection.specs.ImageDocument.{limitOfLinks}
 use Rattle.selection.specs.Expanding.{queueNext, queueWords, once-none, once-more, StartSet, of-operation}
 use Rattle.selection.specs.Refining.{document, passOf, Ample, Begun, Site, Refines, Meets, MeetsSets, WalksList}
 use Rattle.selection.specs.Validating.{forgotten, MeetsOperation, Runs}
-use Rattle.selection.proofs.StepLaws.{places}
 use Rattle.selection.proofs.ExpandedLaws.{queue-next, queue-stores, queue-outside}
 use Rattle.selection.proofs.KnownLaws.{known-nothing}
 use Rattle.selection.proofs.RefineLaws.{kept-trans, then-go, by}
-use Rattle.selection.proofs.QueueingLaws.{site-queue, next-listed}
+use Rattle.selection.proofs.StandLaws.{site-queue}
+use Rattle.selection.proofs.QueueingLaws.{next-listed}
 use Rattle.selection.proofs.LoopLaws.{WalksAs}
 use Rattle.selection.proofs.PartMeets.{aside, finished-first}
 
 -- words of the queue changed before
 meets-aside : {image : List ℕ} {arena : Arena} {work op : ℕ} {P : Pass} {step : ℕ → Step} {s s₁ s′ : List ℕ} {z : states.Walk} {m : Met} → Site image arena work op s z
-    → Outside (arena .queue) (arena .store - arena .queue) s s₁ → z .reply .kind ≡ 0 → Meets image arena work op P step s₁ s′ z m → Meets image arena work op P step s s′ z m
+    → Outside (arena .queue) (arena .lasts - arena .queue) s s₁ → z .reply .kind ≡ 0 → Meets image arena work op P step s₁ s′ z m → Meets image arena work op P step s s′ z m
 meets-aside {step = step} site o go inner =
     let beside = aside site o in
     record {
@@ -55,8 +55,10 @@ pub site-forgotten : {image : List ℕ} {arena : Arena} {work op : ℕ} {s : Lis
 site-forgotten site = record {
   good = site .good;
   regions = site .regions;
+  spread = site .spread;
   sound = site .sound;
   parents = site .parents;
+  classes = site .classes;
   room = site .room;
   marks = site .marks;
   within = site .within;
@@ -75,13 +77,13 @@ operation-met {image} {arena} {work} {operation} {s} {s₁} {s′} {z} x₀ {x} 
   going = met .going;
   ample = met .ample;
   meets = λ P site is row.
-      let r = places (site .good) (site .regions) in
+      let r = site .regions in
       let site₀ = site-forgotten site in
       let some-sets : operation < countAt image sets = omega (arith, site .good .own-sets, row) in
-      let room : arena .queue + x₀ .queued < arena .store = omega (arith, r .store, some-sets, empty) in
-      let inside : arena .store ≤ length s = omega (arith, site .room) in
-      let nothing : Stores s (arena .queue) (x₀ .queued) [] = rw empty (stores-none s (arena .queue) (omega (arith, inside, r .store))) in
-      let o : Outside (arena .queue) (arena .store - arena .queue) s s₁ = rw words (outside-wider (queue-outside arena x₀ s operation room) (arena .queue) (arena .store - arena .queue) (omega arith) (omega (arith, room))) in
+      let room : arena .queue + x₀ .queued < arena .lasts = omega (arith, r .lasts, some-sets, empty) in
+      let inside : arena .lasts ≤ length s = omega (arith, site .room, r .links, r .store) in
+      let nothing : Stores s (arena .queue) (x₀ .queued) [] = rw empty (stores-none s (arena .queue) (omega (arith, inside, r .lasts))) in
+      let o : Outside (arena .queue) (arena .lasts - arena .queue) s s₁ = rw words (outside-wider (queue-outside arena x₀ s operation room) (arena .queue) (arena .lasts - arena .queue) (omega arith) (omega (arith, room))) in
       let one : x .queued ≡ x₀ .queued + 1 = rw (next, queue-next arena x₀ s operation room) in
       meets-aside site₀ o (ample .going) (met .meets P (operation ∷ []) (site-queue site₀ o) (record {
         queue = rw (one, words) (queue-stores arena x₀ s operation room nothing inside);

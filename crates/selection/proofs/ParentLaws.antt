@@ -1,13 +1,13 @@
 -- The loop of the parent pass: subgroup by subgroup. Assumes nothing.
 use mathlib.Core.Path.{_≡_, refl, sym, ap, _∙_}
-use mathlib.Core.Logic.{_⊎_, inl, inr, ⊎-elim}
+use mathlib.Core.Logic.{⊎-elim}
 use mathlib.Core.Bool.{Bool, true, false, cond, not, false≢true}
 use mathlib.Core.List.{List, _++_}
 use Prim.Native.Nat.{ℕ, suc, _+_, _-_, _*_, _≤_, _<_}
 use native.Mathlib.Nat.{le-refl}
 use native.Mathlib.Omega.{arith}
-use lib.Dec.{T, eqb, ltb}
-use borrow.Author.Tests.{eqb-true, ltb-true}
+use lib.Dec.{T, eqb}
+use borrow.Author.Tests.{eqb-true}
 use Rattle.merge_theory.specs.Lists.{_∈_, filter}
 use Rattle.merge_theory.specs.Document.{Document}
 use Rattle.merge_theory.specs.Groups.{fieldsWith, abstracts}
@@ -18,66 +18,20 @@ use Rattle.selection.specs.declared.arena.List as places
 use Rattle.selection.specs.declared.groups.Part.{Part}
 use Rattle.selection.specs.declared.groups.Cursor.{Cursor}
 use Rattle.selection.specs.Places.{rowIn}
-use Rattle.selection.specs.Grouping.{hasObjectParent, nameAt, groupPlace, subgroupPlace, isFirstOfName, opensSubgroup, firstSubgroup, laterSubgroup, nextSubgroup, subgroupPart}
+use Rattle.selection.specs.Grouping.{hasObjectParent, subgroupPart}
+use Rattle.selection.specs.Following.{groupFound, FirstSubgroup, Open, NextSubgroup}
 use Rattle.selection.specs.Refining.{document, Ample, Rows, WalksList}
 use Rattle.selection.proofs.OnceLaws.{once-append}
 use Rattle.selection.proofs.PlaceLaws.{seek-ge}
-use Rattle.selection.proofs.PartLaws.{fieldAt, Opened, Along, subgroupAt, subgroupsAfter, subgroupsFrom, subgroup-part, open-group, step-on, subgroups-start}
-use Rattle.selection.proofs.QueueingLaws.{grounded}
+use Rattle.selection.proofs.PartLaws.{fieldAt, Opened, Along, subgroupAt, subgroupsAfter, subgroupsFrom, subgroup-part, same-name, open-group, step-on, subgroups-start}
+use Rattle.selection.proofs.FollowLaws.{group-is}
+use Rattle.selection.proofs.StandLaws.{grounded, threaded}
 use Rattle.selection.proofs.LoopLaws.{Stepped, PassLoop, loop-first, loop-move, loop-turn, loop-end}
 use Rattle.selection.proofs.ShapeLaws.{rows-filter}
 
 -- ---- whatever the words are
 
 module _ (image s : List ℕ) (store : ℕ) (x : places.List) where
-  opening-below : (q place : ℕ) → q < x .end → cond (ltb place (x .end)) place q < x .end
-  opening-below q place less = go (ltb place (x .end)) refl
-    where
-      go : (b : Bool) → ltb place (x .end) ≡ b → cond b place q < x .end
-      go true e = ltb-true place (x .end) e
-      go false e = less
-
-  first-below : (q : ℕ) → firstSubgroup image s store x q .group < x .end → firstSubgroup image s store x q .first < x .end
-  unfolding firstSubgroup
-  first-below q less = opening-below q (subgroupPlace image s store x (nameAt image s store q) q) less
-
-  pub below-first : (q : ℕ) {c : Cursor} → c ≡ firstSubgroup image s store x q → c .group < x .end → c .first < x .end
-  below-first q e = rw e (first-below q)
-
-  -- a later subgroup, or a later group
-  pub record Ahead (c c′ : Cursor) : Type 0 where
-    pub below : c′ .group < x .end → c′ .first < x .end
-    pub further : ((c′ .group ≡ c .group) × (c .first < c′ .first)) ⊎ (c .group < c′ .group)
-
-  later-ahead : (c : Cursor) → laterSubgroup image s store x c < x .end → c .first < laterSubgroup image s store x c
-  unfolding laterSubgroup
-  later-ahead c = go (hasObjectParent image s (rowIn s store (c .first)))
-    where
-      go : (b : Bool) → cond b (subgroupPlace image s store x (nameAt image s store (c .group)) (c .first + 1)) (x .end) < x .end
-          → c .first < cond b (subgroupPlace image s store x (nameAt image s store (c .group)) (c .first + 1)) (x .end)
-      go true less = omega (arith, seek-ge (opensSubgroup image s store x (nameAt image s store (c .group))) (c .first + 1) (x .end))
-      go false less = absurd (omega arith)
-
-  next-ahead : (c : Cursor) → Ahead c (nextSubgroup image s store x c)
-  unfolding nextSubgroup firstSubgroup
-  next-ahead c = go (ltb (laterSubgroup image s store x c) (x .end)) refl
-    where
-      go : (b : Bool) → ltb (laterSubgroup image s store x c) (x .end) ≡ b
-          → Ahead c (cond b (record { group = c .group; first = laterSubgroup image s store x c }) (firstSubgroup image s store x (groupPlace image s store x (c .group + 1))))
-      go true e = let less = ltb-true _ _ e in record { below = λ _. less; further = inl (refl, later-ahead c less) }
-      go false e = record { below = first-below (groupPlace image s store x (c .group + 1)); further = inr (omega (arith, seek-ge (isFirstOfName image s store x) (c .group + 1) (x .end))) }
-
-  pub ahead-next : (c : Cursor) {c′ : Cursor} → c′ ≡ nextSubgroup image s store x c → Ahead c c′
-  ahead-next c e = rw e (next-ahead c)
-
-  pub subgroup-first : (c : Cursor) {part : Part} → part ≡ subgroupPart image s store x c → c .first < x .end → part .first < part .list .end
-  unfolding subgroupPart
-  subgroup-first c e less = rw e (either (hasObjectParent image s (rowIn s store (c .first))) _ _ less less)
-    where
-      either : (b : Bool) (p q : Part) → p .first < p .list .end → q .first < q .list .end → cond b p q .first < cond b p q .list .end
-      either true p q h k = h
-      either false p q h k = k
-
   pub subgroup-list : (c : Cursor) {part : Part} → part ≡ subgroupPart image s store x c → part .list ≡ x
   unfolding subgroupPart
   subgroup-list c e = rw e (either (hasObjectParent image s (rowIn s store (c .first))) _ _ refl refl)
@@ -90,9 +44,9 @@ module _ (image s : List ℕ) (store : ℕ) (x : places.List) where
 abbrev pub toGo : ℕ → Cursor → ℕ
 toGo end c = (end - c .group) * 4294967296 + (end - c .first)
 
-pub goes-down : (image s : List ℕ) (store : ℕ) (x : places.List) (c c′ : Cursor) → x .end < 4294967296 → c .group < x .end → c .first < x .end → Ahead image s store x c c′
+pub goes-down : (image s : List ℕ) (arena : Arena) (x : places.List) (c c′ : Cursor) → x .end < 4294967296 → c .group < x .end → c .first < x .end → NextSubgroup image s arena x c c′
     → toGo (x .end) c′ < toGo (x .end) c
-goes-down image s store x c c′ small less first a = ⊎-elim (λ h. same-group (h .0) (h .1)) (λ h. omega arith) (a .further)
+goes-down image s arena x c c′ small less first a = ⊎-elim (λ h. same-group (h .0) (h .1)) (λ h. omega arith) (a .further)
   where
     same-group : c′ .group ≡ c .group → c .first < c′ .first → toGo (x .end) c′ < toGo (x .end) c
     same-group e f = omega arith
@@ -156,7 +110,7 @@ module _ {image : List ℕ} {arena : Arena} {work : ℕ} {s₀ s : List ℕ} {z�
         rows = subgroupAt (document image) x l c;
         others = subgroupsAfter (document image) x l c;
         is = along .next less;
-        at = rw is (subgroup-part (grounded site listed stands) c (along .here less));
+        at = rw is (subgroup-part (grounded site listed (stands .rows)) c (along .here less));
         fields = rows-subgroup x l c listed;
         next = (along .here less, refl);
       }
@@ -164,17 +118,22 @@ module _ {image : List ℕ} {arena : Arena} {work : ℕ} {s₀ s : List ℕ} {z�
 -- the next subgroup is found
 pub parent-found : {image : List ℕ} {arena : Arena} {work : ℕ} {s₀ s : List ℕ} {z₀ z : states.Walk} {x : places.List} {levels : ℕ} (c : Cursor) {c′ : Cursor}
     → PassLoop image arena work s₀ s z₀ z x false levels (λ l rest. Opened (document image) x l c × (rest ≡ subgroupsAfter (document image) x l c)) → z .reply .kind ≡ 0
-    → c′ ≡ nextSubgroup image s (arena .store) x c → PassLoop image arena work s₀ s z₀ z x false levels (λ l rest. Along (document image) x l c′ rest)
-parent-found {image} {x = x} c {c′} loop go e =
+    → NextSubgroup image s arena x c c′ → PassLoop image arena work s₀ s z₀ z x false levels (λ l rest. Along (document image) x l c′ rest)
+parent-found {image} {arena} {s = s} {x = x} c {c′} loop go next =
     loop-move (λ l rest. Along (document image) x l c′ rest) loop go λ l rest site stands listed left.
-    rw (left .1, e) (step-on (grounded site listed stands) c (left .0))
+    let G = grounded site listed (stands .rows) in
+    let open-now : Open image s arena x c = record { from = left .0 .from; ahead = left .0 .ahead; below = left .0 .below; named = same-name G c (left .0) } in
+    rw (left .1, next .is (threaded site listed stands) open-now) (step-on G c (left .0))
 
 pub parent-first : {image : List ℕ} {arena : Arena} {work : ℕ} {s : List ℕ} {z : states.Walk} (x : places.List) (levels : ℕ) {q : ℕ} {c : Cursor} → Ample work 0 z
-    → q ≡ groupPlace image s (arena .store) x (x .start) → c ≡ firstSubgroup image s (arena .store) x q
+    → q ≡ groupFound s arena (x .start) (x .end) → FirstSubgroup image s arena x q c
     → PassLoop image arena work s s z z x false levels (λ l rest. Along (document image) x l c rest)
-parent-first {image} x levels {q} {c} ample is e =
+parent-first {image} {arena} {s = s} x levels {q} {c} ample is first =
     loop-move (λ l rest. Along (document image) x l c rest) (loop-first x false levels (λ l rest. rest ≡ subgroupsFrom (document image) x l (x .start)) ample (λ l. subgroups-start (document image) x l)) (ample .going)
-    λ l rest site stands listed left. rw (left, e) (open-group (grounded site listed stands) (x .start) (le-refl (x .start)) is)
+    λ l rest site stands listed left.
+    let t = threaded site listed stands in
+    let from : x .start ≤ q = rw is (seek-ge _ (x .start) (x .end)) in
+    rw (left, first .is t from) (open-group (grounded site listed (stands .rows)) (x .start) (le-refl (x .start)) (is ∙ group-is t (x .start) (le-refl (x .start))))
 
 pub parent-end : {image : List ℕ} {arena : Arena} {work : ℕ} {s₀ s : List ℕ} {z₀ z : states.Walk} {x : places.List} {levels : ℕ} (c : Cursor)
     → PassLoop image arena work s₀ s z₀ z x false levels (λ l rest. Along (document image) x l c rest) → x .end ≤ c .group → (level : ℕ) → level ≡ suc levels → WalksList image arena work s₀ s z₀ x false level z

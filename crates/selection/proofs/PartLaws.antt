@@ -21,8 +21,8 @@ use Rattle.selection.specs.declared.groups.Segment.{Segment}
 use Rattle.selection.specs.declared.groups.Cursor.{Cursor}
 use Rattle.selection.specs.KnownLists.{AtHand}
 use Rattle.selection.specs.Places.{seek, rowIn, before, onward, appears, freshFrom}
-use Rattle.selection.specs.Grouping.{ofKind, member, segment, everyParent, oneParent, abstractParent, hasObjectParent, belongs, memberPlace, nameAt, parentAt, isFirstOfName, opensSubgroup, groupPlace, subgroupPlace, firstSubgroup, laterSubgroup, nextSubgroup, groupPart, subgroupPart, partRows, Grounded, PartAt}
-use Rattle.selection.proofs.PlaceLaws.{row-is, eqb-sym, none-seen, fresh-rest, seek-ge, seek-skips, seek-passes, Found, found, filter-skip, filter-cong, filter-filter, onward-start, onward-over, before-start, appears-by, fresh-all, fresh-here, fresh-skip, fresh-over}
+use Rattle.selection.specs.Grouping.{ofKind, member, segment, everyParent, oneParent, abstractParent, hasObjectParent, belongs, memberPlace, nameAt, parentAt, isFirstOfName, opensSubgroup, groupPlace, subgroupPlace, firstSubgroup, laterSubgroup, nextSubgroup, groupPart, subgroupPart, partRows, othersPlace, Grounded, PartAt, Proper, of-all, of-object, of-others}
+use Rattle.selection.proofs.PlaceLaws.{row-is, eqb-sym, none-seen, fresh-rest, seek-ge, seek-skips, seek-passes, Found, found, found-row, filter-skip, filter-cong, filter-filter, onward-start, onward-over, before-start, appears-by, fresh-all, fresh-here, fresh-skip, fresh-over}
 
 -- what a search for the first appearance of a key found
 pub record FoundKey (key : ℕ → ℕ) (among : ℕ → Bool) (x : places.List) (l : List ℕ) (from q row : ℕ) : Type 0 where
@@ -97,6 +97,10 @@ same-parent D name parent f object = go (eqb (D .nameOf f) name) (ℕ-discrete (
 abbrev pub fieldAt : places.List → List ℕ → ℕ → ℕ
 fieldAt x l p = getD l (p - x .start) 0
 
+-- the fields of a name whose parents are no objects
+abbrev pub others : Document → ℕ → ℕ → Bool
+others D name = member D (segment name abstractParent 0)
+
 -- an open subgroup: its group is one, and it is that of an object parent, or all of a group where there is no such parent
 pub record Opened (D : Document) (x : places.List) (l : List ℕ) (c : Cursor) : Type 0 where
   pub from : x .start ≤ c .group
@@ -105,6 +109,7 @@ pub record Opened (D : Document) (x : places.List) (l : List ℕ) (c : Cursor) :
   pub group : appears (D .nameOf) all (before x l (c .group)) (fieldAt x l (c .group)) ≡ true
   pub first : (appears (D .parentOf) (concrete D (D .nameOf (fieldAt x l (c .group)))) (before x l (c .first)) (fieldAt x l (c .first)) ≡ true)
       ⊎ ((D .isObject (D .parentOf (fieldAt x l (c .first))) ≡ false) × (c .first ≡ c .group))
+  pub rest : Found (others D (D .nameOf (fieldAt x l (c .group)))) x l (c .group) (c .others) (fieldAt x l (c .others))
 
 module _ (D : Document) (x : places.List) (l : List ℕ) where
   -- a group by its name, and the subgroup of one of its object parents
@@ -159,7 +164,7 @@ pub record Along (D : Document) (x : places.List) (l : List ℕ) (c : Cursor) (r
   pub next : c .group < x .end → rest ≡ subgroupAt D x l c ∷ subgroupsAfter D x l c
 
 module _ {D : Document} {image s : List ℕ} {store : ℕ} {x : places.List} {l : List ℕ} (G : Grounded D image s store x l) where
-  belongs-is : (g : Segment) (p : ℕ) → x .start ≤ p → p < x .end → belongs image s g (rowIn s store p) ≡ member D g (rowIn s store p)
+  pub belongs-is : (g : Segment) (p : ℕ) → x .start ≤ p → p < x .end → belongs image s g (rowIn s store p) ≡ member D g (rowIn s store p)
   unfolding belongs member
   belongs-is g p low less = rw (G .names (rowIn s store p), G .parents p low less, G .objects (D .parentOf (rowIn s store p)))
 
@@ -211,6 +216,9 @@ module _ {D : Document} {image s : List ℕ} {store : ℕ} {x : places.List} {l 
     below = less;
     behind = omega arith;
     heads = member-all D (nameAt image s store g) (rowIn s store g) ∙ eq-eqb _ _ (sym (G .names (rowIn s store g)));
+    starts = λ over. absurd (omega arith);
+    front-proper = of-all (nameAt image s store g);
+    back-proper = of-all (nameAt image s store g);
     fields = group-rows g low less opens;
   }
 
@@ -295,6 +303,12 @@ module _ {D : Document} {image s : List ℕ} {store : ℕ} {x : places.List} {l 
     object-here = object-is (c .first) (first-in .0) (first-in .1) ∙ ap (λ f. D .isObject (D .parentOf f)) first-row
 
     -- the fields of interface and union parents
+    rest-here : Found (others D (nameAt image s store (c .group))) x l (c .group) (c .others) (fieldAt x l (c .others))
+    rest-here = rw group-name (here .rest)
+
+    rest-row : c .others < x .end → rowIn s store (c .others) ≡ fieldAt x l (c .others)
+    rest-row less = field-is (c .others) (omega (arith, here .from, here .rest .ahead)) less
+
     back-rows : filter (member D (segment (nameAt image s store (c .group)) abstractParent 0)) (onward x l (c .group)) ≡ abstracts D (fieldsWith (D .nameOf) l nameC)
     back-rows = abstracts-from (c .group) (group-in .0) (group-in .1) (rw group-row (here .group)) ∙ ap (λ f. abstracts D (fieldsWith (D .nameOf) l (D .nameOf f))) group-row
 
@@ -312,9 +326,12 @@ module _ {D : Document} {image s : List ℕ} {store : ℕ} {x : places.List} {l 
         rw (object-s, object) (record {
           from = first-in .0;
           below = first-in .1;
-          behind = here .from;
+          behind = omega (arith, here .from, here .rest .ahead);
+          starts = λ less. rw (rest-row less) (rest-here .passes less);
+          front-proper = of-object n (parentAt image s store (c .first)) (sym (G .objects (parentAt image s store (c .first))) ∙ object-s);
+          back-proper = of-others n;
           heads = member-one D n (parentAt image s store (c .first)) (rowIn s store (c .first)) ∙ both named (eq-eqb _ _ (sym (G .parents (c .first) (first-in .0) (first-in .1))));
-          fields = ap (λ m. m ++ filter (member D (segment n abstractParent 0)) (onward x l (c .group))) rows ∙ ap (λ m. fieldsWith (D .parentOf) (fieldsWith (D .nameOf) l nameC) (D .parentOf (fieldAt x l (c .first))) ++ m) back-rows;
+          fields = ap (λ m. filter (member D (segment n oneParent (parentAt image s store (c .first)))) (onward x l (c .first)) ++ m) (sym (rest-here .same)) ∙ ap (λ m. m ++ filter (member D (segment n abstractParent 0)) (onward x l (c .group))) rows ∙ ap (λ m. fieldsWith (D .parentOf) (fieldsWith (D .nameOf) l nameC) (D .parentOf (fieldAt x l (c .first))) ++ m) back-rows;
         })
 
     without-object : D .isObject (D .parentOf (fieldAt x l (c .first))) ≡ false → c .first ≡ c .group → PartAt D s store l (subgroupPart image s store x c) (subgroupAt D x l c)
@@ -328,6 +345,9 @@ module _ {D : Document} {image s : List ℕ} {store : ℕ} {x : places.List} {l 
           from = first-in .0;
           below = first-in .1;
           behind = omega (arith, first-in .0, first-in .1);
+          starts = λ over. absurd (omega arith);
+          front-proper = of-others n;
+          back-proper = of-others n;
           heads = member-abstract D n (rowIn s store (c .first)) ∙ both (eq-eqb _ _ named) no-object;
           fields = ap (λ m. filter (member D (segment n abstractParent 0)) (onward x l (c .first)) ++ m) (nothing-behind (segment n abstractParent 0))
               ∙ append-nil (filter (member D (segment n abstractParent 0)) (onward x l (c .first)))
@@ -338,6 +358,13 @@ module _ {D : Document} {image s : List ℕ} {store : ℕ} {x : places.List} {l 
     -- the part at a cursor is the subgroup there
     pub subgroup-part : PartAt D s store l (subgroupPart image s store x c) (subgroupAt D x l c)
     subgroup-part = ⊎-elim (λ opens. with-object opens (second-of (eqb (D .nameOf (fieldAt x l (c .first))) nameC) (D .isObject (D .parentOf (fieldAt x l (c .first)))) (concrete-of D nameC _ _ opens))) (λ h. without-object (h .0) (h .1)) (here .first)
+
+    -- its first field has the group's name
+    pub same-name : nameAt image s store (c .first) ≡ nameAt image s store (c .group)
+    same-name = ⊎-elim
+        (λ opens. rw (group-name, G .names (rowIn s store (c .first)), first-row) (eqb-true _ _ (first-of _ _ (concrete-of D nameC _ _ opens))))
+        (λ h. ap (nameAt image s store) (h .1))
+        (here .first)
 
   -- ---- the next subgroup
 
@@ -379,19 +406,20 @@ module _ {D : Document} {image s : List ℕ} {store : ℕ} {x : places.List} {l 
           absurd (omega arith)
 
   -- a subgroup of an object parent, which a search from `from` found at q
-  found-subgroup : (g from q : ℕ) → x .start ≤ g → g ≤ q → q < x .end → appears (D .nameOf) all (before x l g) (fieldAt x l g) ≡ true
+  found-subgroup : (g from q o : ℕ) → x .start ≤ g → g ≤ q → q < x .end → appears (D .nameOf) all (before x l g) (fieldAt x l g) ≡ true
+      → Found (others D (D .nameOf (fieldAt x l g))) x l g o (fieldAt x l o)
       → FoundKey (D .parentOf) (concrete D (D .nameOf (fieldAt x l g))) x l from q (rowIn s store q)
-      → Opened D x l (record { group = g; first = q })
+      → Opened D x l (record { group = g; first = q; others = o })
       × (map (subgroupOf D x l (D .nameOf (fieldAt x l g))) (freshFrom (D .parentOf) (concrete D (D .nameOf (fieldAt x l g))) x l from) ++ subgroupsFrom D x l (g + 1)
-      ≡ subgroupAt D x l (record { group = g; first = q }) ∷ subgroupsAfter D x l (record { group = g; first = q }))
+      ≡ subgroupAt D x l (record { group = g; first = q; others = o }) ∷ subgroupsAfter D x l (record { group = g; first = q; others = o }))
   unfolding subgroupAt subgroupsAfter
-  found-subgroup g from q low ahead less group-opens fk =
+  found-subgroup g from q o low ahead less group-opens rest fk =
       let n = D .nameOf (fieldAt x l g) in
       let row : rowIn s store q ≡ fieldAt x l q = field-is q (omega arith) less in
       let opens : appears (D .parentOf) (concrete D n) (before x l q) (fieldAt x l q) ≡ true = rw row at (fk .opens less) in
       let object : D .isObject (D .parentOf (fieldAt x l q)) ≡ true = second-of (eqb (D .nameOf (fieldAt x l q)) n) (D .isObject (D .parentOf (fieldAt x l q))) (concrete-of D n _ _ opens) in
       let keys : freshFrom (D .parentOf) (concrete D n) x l from ≡ D .parentOf (fieldAt x l q) ∷ freshFrom (D .parentOf) (concrete D n) x l (q + 1) = rw row at (fk .here less) in
-      (record { from = low; ahead = ahead; below = less; group = group-opens; first = inl opens }, rw (keys, object))
+      (record { from = low; ahead = ahead; below = less; group = group-opens; first = inl opens; rest = rest }, rw (keys, object))
 
   -- a group that a search from `from` found at q, and a search from there for its first object parent, which ended at p
   module _ (from q p : ℕ) (low : x .start ≤ from) (fk : FoundKey (D .nameOf) all x l from q (rowIn s store q)) (less : q < x .end)
@@ -411,24 +439,29 @@ module _ {D : Document} {image s : List ℕ} {store : ℕ} {x : places.List} {l 
     inner : FoundKey (D .parentOf) (concrete D (D .nameOf (fieldAt x l q))) x l q p (rowIn s store p)
     inner = subgroup-found (D .nameOf (fieldAt x l q)) q low-q (found-at ∙ ap (λ m. subgroupPlace image s store x m q) (name-is q low-q less))
 
+    rest-q : Found (others D (D .nameOf (fieldAt x l q))) x l q (othersPlace image s store x q) (fieldAt x l (othersPlace image s store x q))
+    rest-q =
+        let f = member-found (segment (nameAt image s store q) abstractParent 0) q low-q refl in
+        rw (← name-is q low-q less) (found-row f (λ near. field-is (othersPlace image s store x q) (omega (arith, low-q, f .ahead)) near))
+
     groups-are : subgroupsFrom D x l from ≡ subgroupsBy D (groupNamed D x l (D .nameOf (fieldAt x l q))) (freshFrom (D .parentOf) (concrete D (D .nameOf (fieldAt x l q))) x l q) ++ subgroupsFrom D x l (q + 1)
     unfolding flatMap subgroups
     groups-are = rw (fk .here less, row-q, rw row-q at (parents-from q (fk .opens less)))
 
-    with-parent : p < x .end → Opened D x l (record { group = q; first = p })
-        × (subgroupsFrom D x l from ≡ subgroupAt D x l (record { group = q; first = p }) ∷ subgroupsAfter D x l (record { group = q; first = p }))
+    with-parent : p < x .end → Opened D x l (record { group = q; first = p; others = othersPlace image s store x q })
+        × (subgroupsFrom D x l from ≡ subgroupAt D x l (record { group = q; first = p; others = othersPlace image s store x q }) ∷ subgroupsAfter D x l (record { group = q; first = p; others = othersPlace image s store x q }))
     unfolding subgroupsBy
     with-parent less-p =
-        let both-facts = found-subgroup q q p low-q (inner .ahead) less-p opens-q inner in
+        let both-facts = found-subgroup q q p (othersPlace image s store x q) low-q (inner .ahead) less-p opens-q rest-q inner in
         (both-facts .0, groups-are ∙ rw (inner .here less-p) (rw (inner .here less-p) at (both-facts .1)))
 
-    without-parent : x .end ≤ p → Opened D x l (record { group = q; first = q })
-        × (subgroupsFrom D x l from ≡ subgroupAt D x l (record { group = q; first = q }) ∷ subgroupsAfter D x l (record { group = q; first = q }))
+    without-parent : x .end ≤ p → Opened D x l (record { group = q; first = q; others = othersPlace image s store x q })
+        × (subgroupsFrom D x l from ≡ subgroupAt D x l (record { group = q; first = q; others = othersPlace image s store x q }) ∷ subgroupsAfter D x l (record { group = q; first = q; others = othersPlace image s store x q }))
     unfolding subgroupsBy subgroupAt subgroupsAfter
     without-parent past =
         let none = inner .over past in
         let object : D .isObject (D .parentOf (fieldAt x l q)) ≡ false = rw row-q at (no-object-first q low-q less (fk .opens less) (rw row-q none)) in
-        (record { from = low-q; ahead = omega arith; below = less; group = opens-q; first = inr (object, refl) }, groups-are ∙ rw (none, object))
+        (record { from = low-q; ahead = omega arith; below = less; group = opens-q; first = inr (object, refl); rest = rest-q }, groups-are ∙ rw (none, object))
 
   -- from a place on, the first group's first subgroup comes first
   pub open-group : (from : ℕ) {q : ℕ} → x .start ≤ from → q ≡ groupPlace image s store x from → Along D x l (firstSubgroup image s store x q) (subgroupsFrom D x l from)
@@ -469,7 +502,7 @@ module _ {D : Document} {image s : List ℕ} {store : ℕ} {x : places.List} {l 
       go true object = rw (object, object-here c here ∙ object) (⊎-elim
           (λ past. rw (le-ltb p (x .end) past, fk .over past) next-group)
           (λ near. rw (lt-ltb p (x .end) near)
-          (let two = found-subgroup (c .group) (c .first + 1) p (here .from) (omega (arith, here .ahead, fk .ahead)) near (here .group) fk in
+          (let two = found-subgroup (c .group) (c .first + 1) p (c .others) (here .from) (omega (arith, here .ahead, fk .ahead)) near (here .group) (here .rest) fk in
           record { over = λ past. absurd (omega (arith, below)); here = λ _. two .0; next = λ _. two .1 }))
           (le-or-lt (x .end) p))
       go false object = rw (object, object-here c here ∙ object, le-ltb (x .end) (x .end) (omega arith)) next-group

@@ -1,7 +1,7 @@
 -- One part of a list: compared, and its sets met. The three ways that this ends. Assumes nothing.
 use mathlib.Core.Path.{_≡_, refl, sym, ap, _∙_}
 use mathlib.Core.Logic.{inr}
-use mathlib.Core.Bool.{Bool, false, false≢true}
+use mathlib.Core.Bool.{Bool, true, false, false≢true}
 use mathlib.Core.Option.{Option, none, some}
 use mathlib.Core.List.{List, [], _∷_}
 use Prim.Native.Nat.{ℕ, _-_, _≤_}
@@ -9,6 +9,7 @@ use native.Mathlib.Omega.{arith}
 use lib.ListN.{length}
 use Rattle.lists.specs.Part.{Outside}
 use Rattle.lists.proofs.Parts.{stores-none, stores-length, stores-kept}
+use Rattle.merge_theory.specs.Lists.{here, flatMap, filter}
 use Rattle.merge_theory.specs.Document.{Cause}
 use Rattle.merge_theory.specs.Walk.{Result, finished, conflict, Step, after, settle, against, compareFirst, descend, setsBelow, walk}
 use Rattle.tables.specs.Layout.{sets}
@@ -17,13 +18,14 @@ use Rattle.selection.specs.declared.arena.Walk as states
 use Rattle.selection.specs.declared.expand.Expansion.{Expansion}
 use Rattle.selection.specs.declared.groups.Part.{Part}
 use Rattle.selection.specs.declared.walk.Met.{Met}
-use Rattle.selection.specs.KnownLists.{AtHand}
+use Rattle.selection.specs.Standing.{Stands}
 use Rattle.selection.specs.Grouping.{PartAt}
-use Rattle.selection.specs.Refining.{document, passOf, Tells, Ample, Begun, Site, Rows, Refines, lower, MeetsSets, MeetsPart}
-use Rattle.selection.specs.Comparing.{ComparesPart, QueuesPart, Queues}
-use Rattle.selection.proofs.StepLaws.{places}
-use Rattle.selection.proofs.RefineLaws.{some-kind, kept-none, kept-trans, then-go, then-stop, by}
-use Rattle.selection.proofs.QueueingLaws.{grounded, site-queue}
+use Rattle.selection.specs.Refining.{document, passOf, Tells, Ample, Begun, Site, Rows, Refines, lower, onePart, MeetsSets, MeetsPart}
+use Rattle.selection.specs.Comparing.{ComparesPart, QueuesPart, Queues, Bare}
+use Rattle.selection.specs.Places.{rowIn}
+use Rattle.selection.proofs.RefineLaws.{some-kind, kept-none, kept-trans, then-go, then-stop, by, idle}
+use Rattle.selection.proofs.QueueingLaws.{field-kind-of, field-sets}
+use Rattle.selection.proofs.StandLaws.{grounded, threaded, site-queue}
 use Rattle.selection.proofs.BelowLaws.{below-start, below-hand, below-once, below-few}
 
 -- a comparison finds a conflict, or changes nothing
@@ -63,31 +65,57 @@ unfolding descend
 sets-below f [] some-sets ls used = absurd (some-sets refl)
 sets-below f (t ∷ sets) some-sets ls used = refl
 
+-- a part of one field without a set: nothing happens
+pub part-bare : {image s : List ℕ} {arena : Arena} {work : ℕ} {z : states.Walk} {part : Part} (isShape : Bool) {r : Bool} → Ample work 0 z → Bare image s arena part r → r ≡ true
+    → MeetsPart image arena work s s z part isShape (record { walk = z; list = part .list; deeper = false })
+unfolding compareFirst against setsBelow flatMap filter
+part-bare {image} {s} {arena} {work} {z} {part} isShape ample bare is = record {
+  operation = refl;
+  going = λ e. absurd (false≢true e);
+  ample = λ _. ample;
+  meets = λ l rows site stands ordered listed p fields.
+      let only = bare .alone is l rows (grounded site listed (stands .rows)) (threaded site listed stands) p in
+      let f = rowIn s (arena .store) (part .first) in
+      let one : Rows image arena work (z .reply .operation) (rowIn s (arena .store) (part .first) ∷ []) = rw only at fields in
+      let kind = field-kind-of image (one .fields (rowIn s (arena .store) (part .first)) (here refl)) in
+      let no-sets : setsBelow (document image) (rowIn s (arena .store) (part .first) ∷ []) ≡ [] = field-sets image (rowIn s (arena .store) (part .first)) [] kind ∙ rw (bare .leaf is) in
+      record {
+        done = λ _ levels.
+            by (onePart image arena work (z .reply .operation) (passOf image isShape) levels rows)
+            (λ ls used h. rw only
+            (finished-first (lower image arena work (z .reply .operation) (passOf image isShape) levels (setsBelow (document image) (rowIn s (arena .store) (part .first) ∷ []))) ls used
+            ∙ nothing-below (walk (document image) (passOf image isShape) work levels) (setsBelow (document image) (rowIn s (arena .store) (part .first) ∷ [])) (ap length no-sets) ls used))
+            (idle site);
+        entered = λ e. absurd (false≢true e);
+      };
+}
+
 -- only words of the queue have changed
-pub aside : {image : List ℕ} {arena : Arena} {work op : ℕ} {s s′ : List ℕ} {z : states.Walk} → Site image arena work op s z → Outside (arena .queue) (arena .store - arena .queue) s s′
+pub aside : {image : List ℕ} {arena : Arena} {work op : ℕ} {s s′ : List ℕ} {z : states.Walk} → Site image arena work op s z → Outside (arena .queue) (arena .lasts - arena .queue) s s′
     → Refines image arena work op finished s s′ z z
 aside {image} {arena} {work} {op} {s} {s′} {z} site o =
-    let r = places (site .good) (site .regions) in
+    let r = site .regions in
     record {
-      tells = λ ls used h. record { known = record { stored = stores-kept o (h .known .stored) (inr (omega (arith, r .store))) }; reply = h .reply };
+      tells = λ ls used h. record { known = record { stored = stores-kept o (h .known .stored) (inr (omega (arith, r .lasts, r .links, r .store))) }; reply = h .reply };
       site = λ _. site-queue site o;
       kept = record {
         long = o .long;
         parents = λ k h. o .below k (omega (arith, r .queue));
-        known = λ k h less. o .above k (omega (arith, r .store));
-        beyond = λ k h. o .above k (omega (arith, r .store));
+        links = λ k h less. o .above k (omega (arith, r .lasts, r .links));
+        known = λ k h less. o .above k (omega (arith, r .lasts, r .links, r .store));
+        beyond = λ k h. o .above k (omega (arith, r .lasts, r .links, r .store));
         grows = omega arith;
       };
     }
 
 module _ {image : List ℕ} {arena : Arena} {work : ℕ} {s : List ℕ} {z z₁ : states.Walk} {part : Part} {isShape : Bool} (ample : Ample work 0 z)
     (compared : ComparesPart image s arena z part isShape z₁) where
-  module _ (l rows : List ℕ) (site : Site image arena work (z .reply .operation) s z) (stands : AtHand s (arena .store) (part .list) l)
+  module _ (l rows : List ℕ) (site : Site image arena work (z .reply .operation) s z) (stands : Stands arena s (part .list) l)
       (listed : Rows image arena work (z .reply .operation) l) (p : PartAt (document image) s (arena .store) l part rows) where
     compare-refines : (z₁ .reply .kind ≡ 0 → Site image arena work (z .reply .operation) s z₁)
         → Refines image arena work (z .reply .operation) (compareFirst (passOf image isShape .clash) rows) s s z z₁
     compare-refines site₁ = record {
-      tells = λ ls used h. compared .tells l rows (grounded site listed stands) p ls used h;
+      tells = λ ls used h. compared .tells l rows (grounded site listed (stands .rows)) (threaded site listed stands) p ls used h;
       site = site₁;
       kept = kept-none s z z₁ (omega (arith, compared .known));
     }
@@ -108,7 +136,7 @@ module _ {image : List ℕ} {arena : Arena} {work : ℕ} {s : List ℕ} {z z₁ 
     same-state : z₁ ≡ z
     same-state = compared .same go
 
-    module _ (l rows : List ℕ) (site : Site image arena work (z .reply .operation) s z) (stands : AtHand s (arena .store) (part .list) l) (ordered : part .list .start ≤ part .list .end)
+    module _ (l rows : List ℕ) (site : Site image arena work (z .reply .operation) s z) (stands : Stands arena s (part .list) l) (ordered : part .list .start ≤ part .list .end)
         (listed : Rows image arena work (z .reply .operation) l) (p : PartAt (document image) s (arena .store) l part rows) (fields : Rows image arena work (z .reply .operation) rows) where
       below : List ℕ
       below = setsBelow (document image) rows
@@ -119,8 +147,8 @@ module _ {image : List ℕ} {arena : Arena} {work : ℕ} {s : List ℕ} {z z₁ 
         stands = stands;
         ordered = ordered;
         listed = listed;
-        queue = rw empty (stores-none s (arena .queue) (omega (arith, site .room, places (site .good) (site .regions) .store)));
-        fits = omega (arith, below-few site fields, places (site .good) (site .regions) .store);
+        queue = rw empty (stores-none s (arena .queue) (omega (arith, site .room, site .regions .lasts, site .regions .links, site .regions .store)));
+        fits = omega (arith, below-few site fields, site .regions .lasts);
       })
 
       compare-done : Refines image arena work (z .reply .operation) (compareFirst (passOf image isShape .clash) rows) s s z z
@@ -129,7 +157,7 @@ module _ {image : List ℕ} {arena : Arena} {work : ℕ} {s : List ℕ} {z z₁ 
       goes : z .reply .kind ≡ 0
       goes = ample .going
 
-      frame : Outside (arena .queue) (arena .store - arena .queue) s s₁
+      frame : Outside (arena .queue) (arena .lasts - arena .queue) s s₁
       frame = queues .frame
 
       size : length (setsBelow (document image) rows) ≡ x .queued

@@ -1,22 +1,13 @@
 -- A pass over the parts of a list: what has been walked, and what is left. Assumes nothing.
 use mathlib.Core.Path.{_≡_, refl, _∙_}
 use mathlib.Core.List.{List, [], _∷_}
-use Prim.Native.Nat.{ℕ, _≤_}
-use native.Mathlib.Omega.{arith}
+use Prim.Native.Nat.{ℕ}
 use Rattle.merge_theory.specs.Walk.{finished, Step, after, _then_, Pass, compareFirst, setsBelow, walkParts, walk}
 use Rattle.merge_theory.proofs.Loops.{after-assoc, after-ext}
 use Rattle.selection.specs.declared.arena.Arena.{Arena}
 use Rattle.selection.specs.declared.arena.Walk as states
-use Rattle.selection.specs.declared.arena.List as places
-use Rattle.selection.specs.KnownLists.{AtHand}
-use Rattle.selection.specs.Refining.{document, Site, Kept, Refines, lower, onePart}
-use Rattle.selection.proofs.ExpandedLaws.{stores-same}
+use Rattle.selection.specs.Refining.{document, Site, Refines, lower, onePart}
 use Rattle.selection.proofs.RefineLaws.{after-finished, then-go, then-stop, by, idle}
-
--- a list that stands in the store stays there
-pub stands-kept : {image : List ℕ} {arena : Arena} {work op : ℕ} {s s′ : List ℕ} {z z′ : states.Walk} {x : places.List} {l : List ℕ} → Kept image arena work op s s′ z z′
-    → AtHand s (arena .store) x l → x .start ≤ x .end → x .end ≤ z .known → AtHand s′ (arena .store) x l
-stands-kept kept stands ordered stored = record { rows = stores-same (kept .long) (λ k ge less. kept .known k (omega arith) (omega arith)) (stands .rows) }
 
 module _ (image : List ℕ) (arena : Arena) (work op : ℕ) (P : Pass) (levels : ℕ) where
   -- the parts of a list that are left, with the walk of the level below

@@ -1,5 +1,6 @@
 -- The laws of places: what a search for a place found, and what that says of the list that stands there. Assumes nothing.
 use mathlib.Core.Path.{_≡_, refl, sym, ap, _∙_}
+use mathlib.Core.Logic.{⊎-elim}
 use mathlib.Core.Bool.{Bool, true, false, not, _&&_, _||_}
 use mathlib.Core.List.{List, [], _∷_, _++_, append-nil, map}
 use Prim.Native.Nat.{ℕ, zero, suc, _+_, _-_, _≤_, _<_}
@@ -12,7 +13,7 @@ use lib.Seq.{drop-cons, take-suc}
 use borrow.Author.Tests.{eq-eqb, ne-eqb}
 use Rattle.lists.specs.Every.{position}
 use Rattle.lists.proofs.EveryLaws.{position-found, position-none, position-le, position-passes, before-position}
-use Rattle.lists.proofs.Parts.{stores-length, stores-getD}
+use Rattle.lists.proofs.Parts.{le-or-lt, stores-length, stores-getD}
 use Rattle.merge_theory.specs.Lists.{keep, filter, isIn, distinct}
 use Rattle.merge_theory.specs.Groups.{keysOf}
 use Rattle.merge_theory.proofs.Loops.{filter-append, map-append}
@@ -75,6 +76,40 @@ module _ (test : ℕ → Bool) (from end : ℕ) where
           let next : from + d + 1 ≡ from + suc d = omega arith in
           go d (omega arith) (λ k l. fails k (omega arith)) ∙ step (from + d) (omega arith) (omega arith) (fails d (omega arith)) ∙ ap F next
 
+  -- the places that a search passed fail
+  pub seek-passed : Passed test from end (seek test from end)
+  unfolding seek
+  seek-passed = record {
+    ahead = omega arith;
+    within = omega (arith, position-le (end - from) (λ k. test (from + k)));
+    failed = λ k h. before-position (end - from) (λ k. test (from + k)) k (omega arith);
+  }
+
+  pub passed-trans : {mid place : ℕ} → Passed test from end mid → Passed test mid end place → Passed test from end place
+  passed-trans {mid} {place} p q = record { ahead = omega (arith, p .ahead, q .ahead); within = omega (arith, p .ahead, p .within, q .ahead, q .within); failed = go }
+    where
+      go : (k : ℕ) → k < place - from → test (from + k) ≡ false
+      go k h = ⊎-elim
+          (λ over. let at : mid + (from + k - mid) ≡ from + k = omega arith in rw at at (q .failed (from + k - mid) (omega (arith, p .ahead, q .ahead))))
+          (λ less. p .failed k (omega (arith, p .ahead)))
+          (le-or-lt mid (from + k))
+
+  -- where no place was passed that would do, and the search ends here
+  pub seek-is : {place : ℕ} → Passed test from end place → (place < end → test place ≡ true) → place ≡ seek test from end
+  seek-is {place} p here = ⊎-elim (λ over. seek-none place p over) (λ less. seek-found place p less (here less)) (le-or-lt end place)
+
+-- a search goes on from a place that it passes
+pub seek-further : (test : ℕ → Bool) (from end : ℕ) {mid : ℕ} → Passed test from end mid → seek test mid end ≡ seek test from end
+seek-further test from end {mid} p = seek-is test from end (passed-trans test from end p (seek-passed test mid end)) (λ less. seek-passes test mid end less)
+
+-- a search for what passes another test at each place
+pub seek-cong : (t u : ℕ → Bool) (from end : ℕ) → ((q : ℕ) → from ≤ q → q < end → t q ≡ u q) → seek t from end ≡ seek u from end
+seek-cong t u from end same =
+    let p = seek-passed t from end in
+    seek-is u from end
+    (record { ahead = p .ahead; within = p .within; failed = λ k h. sym (same (from + k) (omega arith) (omega (arith, p .within))) ∙ p .failed k h })
+    (λ less. sym (same (seek t from end) (p .ahead) less) ∙ seek-passes t from end less)
+
 -- ---- the rows of a list, by place
 
 module _ {s : List ℕ} {store : ℕ} {x : places.List} {l : List ℕ} (list : AtHand s store x l) where
@@ -117,9 +152,20 @@ before-start x l = let none : x .start - x .start ≡ 0 = omega arith in rw none
 -- what a search from `from` found: q is the place of the first row that passes
 pub record Found (t : ℕ → Bool) (x : places.List) (l : List ℕ) (from q row : ℕ) : Type 0 where
   pub ahead : from ≤ q
+  pub same : filter t (onward x l from) ≡ filter t (onward x l q)
   pub over : x .end ≤ q → filter t (onward x l from) ≡ []
   pub here : q < x .end → filter t (onward x l from) ≡ row ∷ filter t (onward x l (q + 1))
   pub passes : q < x .end → t row ≡ true
+
+-- the same row, said in another way
+pub found-row : {t : ℕ → Bool} {x : places.List} {l : List ℕ} {from q row row′ : ℕ} → Found t x l from q row → (q < x .end → row ≡ row′) → Found t x l from q row′
+found-row {t} {x} {l} {from} {q} f is = record {
+  ahead = f .ahead;
+  same = f .same;
+  over = f .over;
+  here = λ less. f .here less ∙ ap (λ (r : ℕ). r ∷ filter t (onward x l (q + 1))) (is less);
+  passes = λ less. ap t (sym (is less)) ∙ f .passes less;
+}
 
 module _ {s : List ℕ} {store : ℕ} {x : places.List} {l : List ℕ} (list : AtHand s store x l) (t : ℕ → Bool) where
   pub filter-here : (p : ℕ) → x .start ≤ p → p < x .end → t (rowIn s store p) ≡ true → filter t (onward x l p) ≡ rowIn s store p ∷ filter t (onward x l (p + 1))
@@ -141,10 +187,22 @@ module _ {s : List ℕ} {store : ℕ} {x : places.List} {l : List ℕ} (list : A
       let passes : q < x .end → t (rowIn s store q) ≡ true = λ less. sym (agree q (omega arith) less) ∙ rw e (seek-passes test from (x .end) (rw e at less)) in
       record {
         ahead = ahead;
+        same = skips;
         over = λ past. skips ∙ rw (onward-over list q past);
         here = λ less. skips ∙ filter-here q (omega arith) less (passes less);
         passes = passes;
       }
+
+  -- a place that passes is found at once
+  pub found-here : (q : ℕ) → x .start ≤ q → (q < x .end → t (rowIn s store q) ≡ true) → Found t x l q q (rowIn s store q)
+  unfolding filter
+  found-here q low passes = record {
+    ahead = omega arith;
+    same = refl;
+    over = λ past. rw (onward-over list q past);
+    here = λ less. filter-here q low less (passes less);
+    passes = passes;
+  }
 
 -- ---- keys where they first appear
 

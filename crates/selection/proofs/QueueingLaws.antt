@@ -25,55 +25,19 @@ use Rattle.selection.specs.declared.expand.Expansion.{Expansion}
 use Rattle.selection.specs.declared.groups.Segment.{Segment}
 use Rattle.selection.specs.declared.groups.Part.{Part}
 use Rattle.selection.specs.ImageDocument.{documentBy, kindFrom, linkFrom, upFrom}
-use Rattle.selection.specs.KnownLists.{AtHand}
+use Rattle.selection.specs.Standing.{Stands}
 use Rattle.selection.specs.Places.{rowIn, onward}
 use Rattle.selection.specs.Expanding.{queueNext, queueWords}
-use Rattle.selection.specs.Grouping.{member, memberPlace, partRows, Grounded}
+use Rattle.selection.specs.Grouping.{member, belongs, memberPlace, partRows, Proper}
+use Rattle.selection.specs.Following.{followed}
 use Rattle.selection.specs.Refining.{document, Site, Rows}
 use Rattle.selection.specs.Comparing.{hasSet, fieldNext, fieldWords, CanQueue, QueuesSegment, QueuesPart}
-use Rattle.selection.proofs.PlaceLaws.{Found, row-is}
-use Rattle.selection.proofs.PartLaws.{member-found}
-use Rattle.selection.proofs.StepLaws.{places, length-queue}
+use Rattle.selection.proofs.PlaceLaws.{Found, found-here}
+use Rattle.selection.proofs.PartLaws.{belongs-is, member-found}
+use Rattle.selection.proofs.FollowLaws.{follows}
+use Rattle.selection.proofs.StandLaws.{row-in, grounded, threaded, site-queue, stands-queue}
+use Rattle.selection.proofs.StepLaws.{length-queue}
 use Rattle.selection.proofs.ExpandedLaws.{queue-next, queue-stores, queue-outside}
-
--- ---- a list that stands in the words
-
-pub getD-in : (l : List ℕ) (i : ℕ) → i < length l → getD l i 0 ∈ l
-getD-in [] i h = absurd (omega arith)
-getD-in (x ∷ xs) zero h = here refl
-getD-in (x ∷ xs) (suc i) h = there (getD-in xs i (omega arith))
-
-module _ {image : List ℕ} {arena : Arena} {work op : ℕ} {s : List ℕ} {z : states.Walk} (site : Site image arena work op s z) where
-  pub row-in : {x : places.List} {l : List ℕ} → AtHand s (arena .store) x l → (p : ℕ) → x .start ≤ p → p < x .end → rowIn s (arena .store) p ∈ l
-  row-in {x} {l} stands p low less = rw (row-is stands p low less) (getD-in l (p - x .start) (omega (arith, stores-length (stands .rows))))
-
-  pub grounded : {x : places.List} {l : List ℕ} → Rows image arena work op l → AtHand s (arena .store) x l → Grounded (document image) image s (arena .store) x l
-  unfolding documentBy
-  grounded rows stands = record {
-    list = stands;
-    names = λ f. refl;
-    objects = λ t. refl;
-    parents = λ p low less. site .parents _ (rows .inside _ (row-in stands p low less));
-  }
-
-  -- only words of the queue have changed
-  pub site-queue : {s′ : List ℕ} → Outside (arena .queue) (arena .store - arena .queue) s s′ → Site image arena work op s′ z
-  site-queue {s′} o =
-      let r = places (site .good) (site .regions) in
-      record {
-        good = site .good;
-        regions = site .regions;
-        sound = site .sound;
-        parents = λ k h. o .below k (omega (arith, r .marks, r .queue)) ∙ site .parents k h;
-        room = rw (o .long) (site .room);
-        marks = λ j h. rw (o .below (arena .marks + j) (omega (arith, r .queue))) (site .marks j h);
-        within = site .within;
-      }
-
-  pub stands-queue : {s′ : List ℕ} {x : places.List} {l : List ℕ} → Outside (arena .queue) (arena .store - arena .queue) s s′ → AtHand s (arena .store) x l → AtHand s′ (arena .store) x l
-  stands-queue o stands =
-      let r = places (site .good) (site .regions) in
-      record { rows = stores-kept o (stands .rows) (inr (omega (arith, r .store))) }
 
 -- ---- the sets of a field
 
@@ -137,36 +101,36 @@ pub record QueuedUpto (image : List ℕ) (arena : Arena) (s₀ s : List ℕ) (e 
   pub before : List ℕ
   pub queue : Stores s (arena .queue) (e .queued) before
   pub total : before ++ setsBelow (document image) (filter (member (document image) g) (onward x l at)) ≡ sets ++ setsBelow (document image) (filter (member (document image) g) (onward x l from))
-  pub frame : Outside (arena .queue) (arena .store - arena .queue) s₀ s
+  pub frame : Outside (arena .queue) (arena .lasts - arena .queue) s₀ s
 
 pub record Queueing (image : List ℕ) (arena : Arena) (s₀ s : List ℕ) (e₀ e : Expansion) (g : Segment) (from end place : ℕ) : Type 0 where
   pub listed : e .listed ≡ e₀ .listed
   pub number : e .number ≡ e₀ .number
   pub long : length s ≡ length s₀
   pub upto : (work op : ℕ) (z : states.Walk) (x : places.List) (l sets : List ℕ) → x .end ≡ end → x .start ≤ from
-      → CanQueue image arena work op s₀ z x l e₀ sets (filter (member (document image) g) (onward x l from)) → QueuedUpto image arena s₀ s e g from place x l sets
+      → (from < x .end → member (document image) g (rowIn s₀ (arena .store) from) ≡ true) → Proper (document image) g → CanQueue image arena work op s₀ z x l e₀ sets (filter (member (document image) g) (onward x l from)) → QueuedUpto image arena s₀ s e g from place x l sets
 
 stores-at : {s s′ : List ℕ} {at n n′ : ℕ} {ws : List ℕ} → s′ ≡ s → n′ ≡ n → Stores s at n ws → Stores s′ at n′ ws
 stores-at e f r = rw (e, f) r
 
 pub next-listed : (arena : Arena) (x : Expansion) → (queueNext arena x .listed ≡ x .listed) × (queueNext arena x .number ≡ x .number)
 unfolding queueNext
-next-listed arena x = go (ltb (arena .queue + x .queued) (arena .store))
+next-listed arena x = go (ltb (arena .queue + x .queued) (arena .lasts))
   where
     go : (b : Bool) → (cond b (record { queued = x .queued + 1; listed = x .listed; number = x .number }) x .listed ≡ x .listed) × (cond b (record { queued = x .queued + 1; listed = x .listed; number = x .number }) x .number ≡ x .number)
     go true = (refl, refl)
     go false = (refl, refl)
 
 module _ {image : List ℕ} {arena : Arena} {s₀ : List ℕ} {e₀ : Expansion} {g : Segment} {from end : ℕ} where
-  pub queueing-first : {place : ℕ} → place ≡ memberPlace image s₀ (arena .store) g from end → Queueing image arena s₀ s₀ e₀ e₀ g from end place
-  queueing-first found = record {
+  pub queueing-first : Queueing image arena s₀ s₀ e₀ e₀ g from end from
+  queueing-first = record {
     listed = refl;
     number = refl;
     long = refl;
-    upto = λ work op z x l sets is low can. record {
+    upto = λ work op z x l sets is low begins proper can. record {
       at = from;
       low = low;
-      found = member-found (grounded (can .site) (can .listed) (can .stands)) g from low (found ∙ ap (memberPlace image s₀ (arena .store) g from) (sym is));
+      found = found-here (can .stands .rows) (member (document image) g) from low begins;
       before = sets;
       queue = can .queue;
       total = refl;
@@ -180,8 +144,8 @@ module _ {image : List ℕ} {arena : Arena} {s₀ : List ℕ} {e₀ : Expansion}
     listed = q .listed;
     number = q .number;
     long = q .long;
-    queues = λ work op z l sets low can.
-        let u = q .upto work op z x l sets is low can in
+    queues = λ work op z l sets low begins proper can.
+        let u = q .upto work op z x l sets is low begins proper can in
         record { queue = rw (← u .total, u .found .over (omega arith), sets-none (document image), append-nil (u .before)) (u .queue); frame = u .frame };
   }
 
@@ -205,9 +169,10 @@ module _ {image : List ℕ} {arena : Arena} {s₀ : List ℕ} {e₀ : Expansion}
         go false = refl
 
     module _ (work op : ℕ) (z : states.Walk) (x : places.List) (l sets : List ℕ) (is : x .end ≡ end) (low : x .start ≤ from)
+        (begins : from < x .end → member (document image) g (rowIn s₀ (arena .store) from) ≡ true) (proper : Proper (document image) g)
         (can : CanQueue image arena work op s₀ z x l e₀ sets (filter (member (document image) g) (onward x l from))) where
       u : QueuedUpto image arena s₀ s e g from place x l sets
-      u = q .upto work op z x l sets is low can
+      u = q .upto work op z x l sets is low begins proper can
 
       abbrev rest : List ℕ
       rest = filter (member (document image) g) (onward x l (place + 1))
@@ -215,14 +180,14 @@ module _ {image : List ℕ} {arena : Arena} {s₀ : List ℕ} {e₀ : Expansion}
       site-now : Site image arena work op s z
       site-now = site-queue (can .site) (u .frame)
 
-      stands-now : AtHand s (arena .store) x l
-      stands-now = stands-queue (can .site) (u .frame) (can .stands)
+      stands-now : Stands arena s x l
+      stands-now = stands-queue (can .site) (u .frame) (can .listed) (can .ordered) (can .stands)
 
       low-place : x .start ≤ place
       low-place = omega (arith, u .low, u .found .ahead)
 
       kind : selectionKind image row ≡ field
-      kind = field-kind-of image (can .listed .fields row (rw is-row (row-in site-now stands-now place low-place (omega arith))))
+      kind = field-kind-of image (can .listed .fields row (rw is-row (row-in site-now (stands-now .rows) place low-place (omega arith))))
 
       total-now : u .before ++ (cond (hasSet image row) (selectionTarget image row ∷ []) [] ++ setsBelow (document image) rest) ≡ sets ++ setsBelow (document image) (filter (member (document image) g) (onward x l from))
       total-now = ap (λ m. u .before ++ m) (sym (ap (setsBelow (document image)) (u .found .here (omega arith) ∙ ap (λ (k : ℕ). k ∷ filter (member (document image) g) (onward x l (place + 1))) (sym is-row)) ∙ field-sets image row rest kind)) ∙ u .total
@@ -232,7 +197,7 @@ module _ {image : List ℕ} {arena : Arena} {s₀ : List ℕ} {e₀ : Expansion}
         pub before : List ℕ
         pub queue : Stores s′ (arena .queue) (e′ .queued) before
         pub total : before ++ setsBelow (document image) rest ≡ sets ++ setsBelow (document image) (filter (member (document image) g) (onward x l from))
-        pub frame : Outside (arena .queue) (arena .store - arena .queue) s s′
+        pub frame : Outside (arena .queue) (arena .lasts - arena .queue) s s′
 
       added-by : (b : Bool) → hasSet image row ≡ b → Added
       unfolding fieldNext fieldWords
@@ -242,34 +207,44 @@ module _ {image : List ℕ} {arena : Arena} {s₀ : List ℕ} {e₀ : Expansion}
           let long : length (u .before) + suc (length (setsBelow (document image) rest)) ≡ length (sets ++ setsBelow (document image) (filter (member (document image) g) (onward x l from))) = sym (length-append (u .before) (t ∷ setsBelow (document image) rest)) ∙ ap length whole in
           let size = stores-length (u .queue) in
           let fits = can .fits in
-          let room : arena .queue + e .queued < arena .store = omega arith in
-          let inside : arena .store ≤ length s = omega (arith, site-now .room) in
+          let room : arena .queue + e .queued < arena .lasts = omega arith in
+          let inside : arena .lasts ≤ length s = omega (arith, site-now .room, site-now .regions .links, site-now .regions .store) in
           let is-e : e′ .queued ≡ e .queued + 1 = rw (next, h, queue-next arena e s t room) in
           let is-s : s′ ≡ queueWords arena e s t = rw (words, h) in
           record {
             before = u .before ++ (t ∷ []);
             queue = stores-at is-s is-e (queue-stores arena e s t room (u .queue) inside);
             total = append-assoc (u .before) (t ∷ []) (setsBelow (document image) rest) ∙ whole;
-            frame = rw is-s (outside-wider (queue-outside arena e s t room) (arena .queue) (arena .store - arena .queue) (omega arith) (omega arith));
+            frame = rw is-s (outside-wider (queue-outside arena e s t room) (arena .queue) (arena .lasts - arena .queue) (omega arith) (omega arith));
           }
       added-by false h =
           let is-e : e′ ≡ e = rw (next, h) in
           let is-s : s′ ≡ s = rw (words, h) in
           record { before = u .before; queue = stores-at is-s (ap (λ (k : Expansion). k .queued) is-e) (u .queue); total = rw h at total-now; frame = rw is-s (outside-none _ _ s) }
 
-    pub queueing-next : {after : ℕ} → after ≡ memberPlace image s′ (arena .store) g (place + 1) end → Queueing image arena s₀ s′ e₀ e′ g from end after
+    pub queueing-next : {after : ℕ} → after ≡ followed s′ arena (g .kind) place end → Queueing image arena s₀ s′ e₀ e′ g from end after
     queueing-next {after} found = record {
       listed = field-listed .0 ∙ q .listed;
       number = field-listed .1 ∙ q .number;
       long = field-long ∙ q .long;
-      upto = λ work op z x l sets is low can.
-          let more = added-by work op z x l sets is low can (hasSet image row) refl in
-          let frame : Outside (arena .queue) (arena .store - arena .queue) s₀ s′ = outside-trans (u work op z x l sets is low can .frame) (more .frame) in
-          let ahead : x .start ≤ place + 1 = omega (arith, low-place work op z x l sets is low can) in
+      upto = λ work op z x l sets is low begins proper can.
+          let v = u work op z x l sets is low begins proper can in
+          let more = added-by work op z x l sets is low begins proper can (hasSet image row) refl in
+          let frame : Outside (arena .queue) (arena .lasts - arena .queue) s₀ s′ = outside-trans (v .frame) (more .frame) in
+          let at-place : x .start ≤ place = low-place work op z x l sets is low begins proper can in
+          let ahead : x .start ≤ place + 1 = omega arith in
+          let near : place < x .end = omega arith in
+          let site′ = site-queue (can .site) frame in
+          let stands′ = stands-queue (can .site) frame (can .listed) (can .ordered) (can .stands) in
+          let G = grounded site′ (can .listed) (stands′ .rows) in
+          let row-stays : rowIn s′ (arena .store) place ≡ rowIn s (arena .store) place = more .frame .above (arena .store + place) (omega (arith, can .site .regions .lasts, can .site .regions .links, can .site .regions .store)) in
+          let here : belongs image s′ g (rowIn s′ (arena .store) place) ≡ true = belongs-is G g place at-place near ∙ ap (member (document image) g) row-stays ∙ v .found .passes near in
+          let F = follows (threaded site′ (can .listed) stands′) (document image) (G .objects) g proper in
+          let found-next : after ≡ memberPlace image s′ (arena .store) g (place + 1) (x .end) = found ∙ ap (followed s′ arena (g .kind) place) (sym is) ∙ F place at-place near here in
           record {
             at = place + 1;
             low = ahead;
-            found = member-found (grounded (site-queue (can .site) frame) (can .listed) (stands-queue (can .site) frame (can .stands))) g (place + 1) ahead (found ∙ ap (memberPlace image s′ (arena .store) g (place + 1)) (sym is));
+            found = member-found G g (place + 1) ahead found-next;
             before = more .before;
             queue = more .queue;
             total = more .total;
@@ -278,6 +253,11 @@ module _ {image : List ℕ} {arena : Arena} {s₀ : List ℕ} {e₀ : Expansion}
     }
 
 -- ---- both segments of a part
+
+-- the rows of the store stay while sets are queued
+stays-at : {image : List ℕ} {arena : Arena} {work op : ℕ} {s s′ : List ℕ} {z : states.Walk} {x : places.List} {l : List ℕ} {e : Expansion} {sets rows : List ℕ} (place : ℕ)
+    → CanQueue image arena work op s z x l e sets rows → Outside (arena .queue) (arena .lasts - arena .queue) s s′ → rowIn s′ (arena .store) place ≡ rowIn s (arena .store) place
+stays-at {arena = arena} place can o = let r = can .site .regions in o .above (arena .store + place) (omega (arith, r .lasts, r .links, r .store))
 
 pub queued-part : {image : List ℕ} {arena : Arena} {s s₁ s′ : List ℕ} {e e₁ e′ : Expansion} {part : Part} → QueuesSegment image arena s s₁ e e₁ (part .list) (part .front) (part .first)
     → QueuesSegment image arena s₁ s′ e₁ e′ (part .list) (part .back) (part .next) → QueuesPart image arena s s′ e e′ part
@@ -293,10 +273,10 @@ queued-part {image} {arena} {s} {s₁} {s′} {e} {e₁} {e′} {part} front bac
       let both : sets ++ setsBelow (document image) rows ≡ (sets ++ setsBelow (document image) xs) ++ setsBelow (document image) ys =
       ap (λ m. sets ++ setsBelow (document image) m) (sym (p .fields)) ∙ ap (λ m. sets ++ m) (sets-append (document image) xs ys) ∙ sym (append-assoc sets (setsBelow (document image) xs) (setsBelow (document image) ys)) in
       let size : length (sets ++ setsBelow (document image) rows) ≡ length (sets ++ setsBelow (document image) xs) + length (setsBelow (document image) ys) = ap length both ∙ length-append (sets ++ setsBelow (document image) xs) (setsBelow (document image) ys) in
-      let first = front .queues work op z l sets (p .from) (record { site = can .site; stands = can .stands; ordered = can .ordered; listed = can .listed; queue = can .queue; fits = omega (arith, can .fits) }) in
-      let second = back .queues work op z l (sets ++ setsBelow (document image) xs) (p .behind) (record {
+      let first = front .queues work op z l sets (p .from) (λ less. p .heads) (p .front-proper) (record { site = can .site; stands = can .stands; ordered = can .ordered; listed = can .listed; queue = can .queue; fits = omega (arith, can .fits) }) in
+      let second = back .queues work op z l (sets ++ setsBelow (document image) xs) (p .behind) (λ less. rw (stays-at (part .next) can (first .frame)) (p .starts less)) (p .back-proper) (record {
         site = site-queue (can .site) (first .frame);
-        stands = stands-queue (can .site) (first .frame) (can .stands);
+        stands = stands-queue (can .site) (first .frame) (can .listed) (can .ordered) (can .stands);
         ordered = can .ordered;
         listed = can .listed;
         queue = first .queue;

@@ -49,13 +49,14 @@ module _ {image : List ℕ} {arena : Arena} {work op : ℕ} where
   kept-trans p q = record {
     long = q .long ∙ p .long;
     parents = λ k h. q .parents k h ∙ p .parents k h;
+    links = λ k h less. q .links k h (omega (arith, p .grows)) ∙ p .links k h less;
     known = λ k h less. q .known k h (omega (arith, p .grows)) ∙ p .known k h less;
     beyond = λ k h. q .beyond k h ∙ p .beyond k h;
     grows = omega (arith, p .grows, q .grows);
   }
 
   pub kept-none : (s : List ℕ) (z z′ : states.Walk) → z .known ≤ z′ .known → Kept image arena work op s s z z′
-  kept-none s z z′ grows = record { long = refl; parents = λ k h. refl; known = λ k h less. refl; beyond = λ k h. refl; grows = grows }
+  kept-none s z z′ grows = record { long = refl; parents = λ k h. refl; links = λ k h less. refl; known = λ k h less. refl; beyond = λ k h. refl; grows = grows }
 
   pub then-go : {f g : Step} {s s′ s″ : List ℕ} {z z′ z″ : states.Walk} → Refines image arena work op f s s′ z z′ → z′ .reply .kind ≡ 0
       → Refines image arena work op g s′ s″ z′ z″ → Refines image arena work op (f then g) s s″ z z″

@@ -1,5 +1,5 @@
 -- The loop of the shape pass: group by group. Assumes nothing.
-use mathlib.Core.Path.{_≡_, refl, ap}
+use mathlib.Core.Path.{_≡_, refl, ap, _∙_}
 use mathlib.Core.Bool.{Bool, true}
 use mathlib.Core.List.{List, [], _∷_, map}
 use Prim.Native.Nat.{ℕ, suc, _+_, _≤_, _<_}
@@ -15,11 +15,13 @@ use Rattle.selection.specs.declared.arena.List as places
 use Rattle.selection.specs.declared.groups.Part.{Part}
 use Rattle.selection.specs.Places.{rowIn, before, appears}
 use Rattle.selection.specs.Grouping.{groupPlace, groupPart, Grounded}
+use Rattle.selection.specs.Following.{groupFound}
 use Rattle.selection.specs.Refining.{document, Ample, Rows, WalksList}
 use Rattle.selection.proofs.OnceLaws.{once-filter}
 use Rattle.selection.proofs.PlaceLaws.{row-is, seek-ge}
 use Rattle.selection.proofs.PartLaws.{all, fieldAt, group-found, group-part, groupsFrom, groups-start}
-use Rattle.selection.proofs.QueueingLaws.{grounded}
+use Rattle.selection.proofs.FollowLaws.{group-is}
+use Rattle.selection.proofs.StandLaws.{grounded, threaded}
 use Rattle.selection.proofs.LoopLaws.{Stepped, PassLoop, loop-first, loop-move, loop-turn, loop-end}
 
 -- the groups from a place on: none past the end, else the one that opens there and those behind it
@@ -57,8 +59,8 @@ module _ {image : List ℕ} {arena : Arena} {work : ℕ} {s₀ s : List ℕ} {z�
   unfolding groupPart fieldsWith
   shape-turn {place} {s′} {z′} {part} loop ample less is step =
       loop-turn (λ l rest. (x .start ≤ place) × (rest ≡ groupsFrom (document image) x l (place + 1))) loop ample (ap (λ (p : Part). p .list) is) step λ l rest site stands ordered stored listed along.
-      let G = grounded site listed stands in
-      let row : rowIn s (arena .store) place ≡ fieldAt x l place = row-is stands place (along .from) less in
+      let G = grounded site listed (stands .rows) in
+      let row : rowIn s (arena .store) place ≡ fieldAt x l place = row-is (stands .rows) place (along .from) less in
       record {
         rows = fieldsWith (document image .nameOf) l (document image .nameOf (fieldAt x l place));
         others = groupsFrom (document image) x l (place + 1);
@@ -71,25 +73,21 @@ module _ {image : List ℕ} {arena : Arena} {work : ℕ} {s₀ s : List ℕ} {z�
 -- the next group is found
 pub shape-found : {image : List ℕ} {arena : Arena} {work : ℕ} {s₀ s : List ℕ} {z₀ z : states.Walk} {x : places.List} {levels place next : ℕ}
     → PassLoop image arena work s₀ s z₀ z x true levels (λ l rest. (x .start ≤ place) × (rest ≡ groupsFrom (document image) x l (place + 1))) → z .reply .kind ≡ 0
-    → next ≡ groupPlace image s (arena .store) x (place + 1) → PassLoop image arena work s₀ s z₀ z x true levels (AlongGroups (document image) x next)
+    → next ≡ groupFound s arena (place + 1) (x .end) → PassLoop image arena work s₀ s z₀ z x true levels (AlongGroups (document image) x next)
 shape-found {image} {x = x} {place = place} {next = next} loop go e =
     loop-move (AlongGroups (document image) x next) loop go λ l rest site stands listed left.
-    rw (left .1) (groups-along (grounded site listed stands) (place + 1) (omega (arith, left .0)) e)
+    rw (left .1) (groups-along (grounded site listed (stands .rows)) (place + 1) (omega (arith, left .0)) (e ∙ group-is (threaded site listed stands) (place + 1) (omega (arith, left .0))))
 
 pub shape-first : {image : List ℕ} {arena : Arena} {work : ℕ} {s : List ℕ} {z : states.Walk} (x : places.List) (levels : ℕ) {place : ℕ} → Ample work 0 z
-    → place ≡ groupPlace image s (arena .store) x (x .start) → PassLoop image arena work s s z z x true levels (AlongGroups (document image) x place)
+    → place ≡ groupFound s arena (x .start) (x .end) → PassLoop image arena work s s z z x true levels (AlongGroups (document image) x place)
 shape-first {image} x levels {place} ample e =
     loop-move (AlongGroups (document image) x place) (loop-first x true levels (λ l rest. rest ≡ groupsFrom (document image) x l (x .start)) ample (λ l. groups-start (document image) x l)) (ample .going)
-    λ l rest site stands listed left. rw left (groups-along (grounded site listed stands) (x .start) (le-refl (x .start)) e)
+    λ l rest site stands listed left. rw left (groups-along (grounded site listed (stands .rows)) (x .start) (le-refl (x .start)) (e ∙ group-is (threaded site listed stands) (x .start) (le-refl (x .start))))
 
 pub shape-end : {image : List ℕ} {arena : Arena} {work : ℕ} {s₀ s : List ℕ} {z₀ z : states.Walk} {x : places.List} {levels place : ℕ}
     → PassLoop image arena work s₀ s z₀ z x true levels (AlongGroups (document image) x place) → x .end ≤ place → (level : ℕ) → level ≡ suc levels → WalksList image arena work s₀ s z₀ x true level z
 shape-end loop past level is = loop-end loop level is (λ l rest left. left .over past)
 
 -- a search for a group goes ahead
-pub group-ahead : (image s : List ℕ) (store : ℕ) (x : places.List) (from : ℕ) {q : ℕ} → q ≡ groupPlace image s store x from → from ≤ q
-group-ahead image s store x from e = rw e (seek-ge _ from (x .end))
-
-pub group-first : (image s : List ℕ) (store : ℕ) (x : places.List) (place : ℕ) {part : Part} → part ≡ groupPart image s store x place → place < x .end → part .first < part .list .end
-unfolding groupPart
-group-first image s store x place e less = rw e less
+pub group-ahead : (s : List ℕ) (arena : Arena) (from end : ℕ) {q : ℕ} → q ≡ groupFound s arena from end → from ≤ q
+group-ahead s arena from end e = rw e (seek-ge _ from end)

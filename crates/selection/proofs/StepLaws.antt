@@ -4,7 +4,7 @@ use mathlib.Core.Path.{_≡_, refl, sym, ap, _∙_}
 use mathlib.Core.Logic.{_⊎_, inl, inr, ⊎-elim}
 use mathlib.Core.Bool.{Bool, true, false, cond, _||_}
 use mathlib.Core.List.{List, [], _∷_, _++_, append-nil, append-assoc}
-use Prim.Native.Nat.{ℕ, _+_, _-_, _≤_, _<_}
+use Prim.Native.Nat.{ℕ, _+_, _-_, _*_, _≤_, _<_}
 use native.Mathlib.Numerals.{add-one}
 use native.Mathlib.Omega.{arith}
 use borrow.Author.Tests.{eq-eqb, ne-eqb, eqb-true, eqb-false}
@@ -29,7 +29,7 @@ use Rattle.tables.proofs.Ranges.{row-in}
 use Rattle.selection.specs.declared.arena.Arena.{Arena}
 use Rattle.selection.specs.declared.expand.Expansion.{Expansion}
 use Rattle.selection.specs.ImageDocument.{upFrom}
-use Rattle.selection.specs.Regions.{rowsAtMost, arenaOf}
+use Rattle.selection.specs.Regions.{mostWork, rowsAtMost, roomOf, arenaOf, Places}
 use Rattle.selection.specs.Expanding.{hasRoom, queueNext, queueWords, listNext, listWords, isMarked, fragmentNext, fragmentWords, MarksBelow, Framed, Fresh}
 use Rattle.selection.specs.ExpandSteps.{Task, documentOf, Shows, Steps}
 use Rattle.selection.proofs.ParentsLaws.{few-rows}
@@ -40,34 +40,45 @@ use Rattle.selection.proofs.ExpandedLaws.{queue-next, queue-words, list
 
 -- ---- the regions of a good image
 
-pub record Places (image : List ℕ) (arena : Arena) : Type 0 where
-  pub marks : arena .marks ≡ countAt image selections
-  pub queue : arena .queue ≡ arena .marks + countAt image fragments
-  pub store : arena .store ≡ arena .queue + countAt image sets
-
-rows-all : {image : List ℕ} → Good image → (t : ℕ) → t < 9 → rowsAtMost image t ≡ countAt image t
+pub rows-all : {image : List ℕ} → Good image → (t : ℕ) → t < 9 → rowsAtMost image t ≡ countAt image t
 unfolding rowsAtMost
 rows-all good t h = omega (arith, good .nine, good .few t (omega (arith, good .nine)))
 
-pub places : {image : List ℕ} {arena : Arena} → Good image → arena ≡ arenaOf image → Places image arena
+pub places : {image : List ℕ} {arena : Arena} (work : ℕ) → Good image → arena ≡ arenaOf image work → Places image arena
 unfolding arenaOf
-places {image} good e = rw e record {
-  marks = rows-all good selections (omega arith);
-  queue = ap (λ (n : ℕ). rowsAtMost image selections + n) (rows-all good fragments (omega arith));
-  store = ap (λ (n : ℕ). rowsAtMost image selections + rowsAtMost image fragments + n) (rows-all good sets (omega arith));
-}
+places {image} work good e =
+    let n = rows-all good selections (omega arith) in
+    let f = rows-all good fragments (omega arith) in
+    let t = rows-all good sets (omega arith) in
+    rw e record {
+      names = n;
+      pairs = omega (arith, n);
+      marks = omega (arith, n);
+      queue = omega (arith, f);
+      lasts = omega (arith, t);
+      links = omega (arith, n);
+      store = omega arith;
+      small = omega (arith, n, f, t, few-rows good selections (omega arith), few-rows good fragments (omega arith), few-rows good sets (omega arith));
+    }
+
+-- the links of all that a budget pays for, and of the list at hand, stand before the store
+pub links-fit : {image : List ℕ} {arena : Arena} (work : ℕ) → Good image → arena ≡ arenaOf image work → work ≤ mostWork
+    → arena .store ≡ arena .links + 4 * (work + 1 + countAt image selections)
+unfolding arenaOf roomOf
+links-fit {image} work good e few = rw e (omega (arith, few, rows-all good selections (omega arith)))
 
 -- ---- frames
 
 module _ {image : List ℕ} {arena : Arena} where
   pub framed-none : (s : List ℕ) (n : ℕ) → Framed image arena s s n n
-  framed-none s n = record { long = refl; parents = λ k h. refl; known = λ k h l. refl; beyond = λ k h. refl }
+  framed-none s n = record { long = refl; parents = λ k h. refl; links = λ k h l. refl; known = λ k h l. refl; beyond = λ k h. refl }
 
   -- a word of the marks or the queue
-  framed-inner : {s s′ : List ℕ} {at : ℕ} (n : ℕ) → arena .marks ≤ at → at < arena .store → Outside at 1 s s′ → Framed image arena s s′ n n
-  framed-inner n above below o = record {
+  framed-inner : {s s′ : List ℕ} {at : ℕ} (n : ℕ) → arena .marks ≤ at → at < arena .lasts → arena .lasts ≤ arena .store → Outside at 1 s s′ → Framed image arena s s′ n n
+  framed-inner n above below ordered o = record {
     long = o .long;
     parents = λ k h. o .below k (omega arith);
+    links = λ k h l. o .above k (omega arith);
     known = λ k h l. o .above k (omega arith);
     beyond = λ k h. o .above k (omega arith);
   }
@@ -77,6 +88,7 @@ module _ {image : List ℕ} {arena : Arena} where
   framed-last n h o = record {
     long = o .long;
     parents = λ k l. o .below k (omega arith);
+    links = λ k l m. o .below k (omega arith);
     known = λ k l m. o .below k (omega arith);
     beyond = λ k l. o .above k (omega arith);
   }
@@ -85,6 +97,7 @@ module _ {image : List ℕ} {arena : Arena} where
   framed-trans p q f g = record {
     long = g .long ∙ f .long;
     parents = λ k h. g .parents k h ∙ f .parents k h;
+    links = λ k h l. g .links k h l ∙ f .links k h l;
     known = λ k h l. g .known k h (omega arith) ∙ f .known k h l;
     beyond = λ k h. g .beyond k h ∙ f .beyond k (omega arith);
   }
@@ -197,18 +210,18 @@ module _ {image : List ℕ} {arena : Arena} where
     fields = filter (λ q. isField (D .kindOf q)) before
 
     region : Places image arena
-    region = places (t .good) (t .regions)
+    region = t .regions
 
     queue-held : x .queued ≤ countAt image sets
     queue-held = omega (arith, stores-length (at .queue), queue-fits t before (fresh-left before (r ∷ []) fresh))
 
     -- a set that the row adds finds room in the queue
-    queue-room : {u : ℕ} {seen list : List ℕ} → Adds D before r (u ∷ []) seen list → arena .queue + x .queued < arena .store
+    queue-room : {u : ℕ} {seen list : List ℕ} → Adds D before r (u ∷ []) seen list → arena .queue + x .queued < arena .lasts
     queue-room {u} a =
         let all : length (t .starts ++ queued D [] (before ++ (r ∷ []))) ≤ countAt image sets = queue-fits t (before ++ (r ∷ [])) fresh in
         let most : length (t .starts) + (length (queued D [] before) + 1) ≤ countAt image sets = simp (a .queue, length-append) at all in
         let now : length (t .starts) + length (queued D [] before) ≡ x .queued = simp length-append at (stores-length (at .queue)) in
-        omega (arith, region .store)
+        omega (arith, region .lasts)
 
     -- and a field in the store
     list-room : {sets seen : List ℕ} → Adds D before r sets seen (r ∷ []) → x .listed < t .from + countAt image selections
@@ -239,8 +252,8 @@ module _ {image : List ℕ} {arena : Arena} where
         let count : x .listed - t .from + 1 ≡ x .listed + 1 - t .from = omega (arith, at .ahead) in
         let o = set-outside s (arena .store + x .listed) r in
         let inside : arena .store + t .from + (x .listed - t .from) < length s = omega (arith, list-room a, at .room) in
-        let behind : arena .queue ≤ arena .store + x .listed = omega (arith, region .store) in
-        let clear : arena .queue + x .queued ≤ arena .store + x .listed = omega (arith, queue-held, region .store) in
+        let behind : arena .queue ≤ arena .store + x .listed = omega (arith, region .lasts, region .links, region .store) in
+        let clear : arena .queue + x .queued ≤ arena .store + x .listed = omega (arith, queue-held, region .lasts, region .links, region .store) in
         shows-next a (rw (append-nil (queueOf t before)) (stores-kept o (at .queue) (inl clear))) (omega (arith, at .ahead))
         (rw (← count, ← place) (pushed s (arena .store + t .from) (x .listed - t .from) r inside .words fields (at .list)))
         (seen-kept region o behind _ _ (at .seen)) (marks-kept region o behind _ (at .marks)) (o .long)
@@ -253,9 +266,9 @@ module _ {image : List ℕ} {arena : Arena} where
     queue-shows {u} {seen} {s₁} a long queue list marked below =
         let room = queue-room a in
         let o = set-outside s₁ (arena .queue + x .queued) u in
-        let inside : arena .queue + x .queued < length s₁ = omega (arith, at .room) in
+        let inside : arena .queue + x .queued < length s₁ = omega (arith, at .room, region .links, region .store) in
         let behind : arena .queue ≤ arena .queue + x .queued = omega arith in
-        let clear : arena .queue + x .queued + 1 ≤ arena .store + t .from = omega arith in
+        let clear : arena .queue + x .queued + 1 ≤ arena .store + t .from = omega (arith, region .links, region .store) in
         shows-next a (pushed s₁ (arena .queue) (x .queued) u inside .words (queueOf t before) queue) (at .ahead)
         (rw (append-nil fields) (stores-kept o list (inr clear)))
         (seen-kept region o behind _ _ marked) (marks-kept region o behind _ below) (o .long ∙ long)
@@ -275,7 +288,7 @@ module _ {image : List ℕ} {arena : Arena} where
       mark-below k h =
           ⊎-elim (λ e.
           let same : arena .marks + k ≡ arena .marks + j = ap (λ (i : ℕ). arena .marks + i) (eqb-true k j e) in
-          let here : arena .marks + j < length s = omega (arith, at .room, region .queue, region .store) in
+          let here : arena .marks + j < length s = omega (arith, at .room, region .queue, region .lasts, region .links, region .store) in
           rw (same, getD-set-same s (arena .marks + j) (x .number) 0 here) (omega arith))
           (λ e.
           let differ = eqb-false k j e in
@@ -287,9 +300,9 @@ module _ {image : List ℕ} {arena : Arena} where
           (record { queued = x .queued + 1; listed = x .listed; number = x .number })
       new-shows a =
           let o = set-outside s (arena .marks + j) (x .number) in
-          let here : arena .marks + j < length s = omega (arith, at .room, region .queue, region .store) in
+          let here : arena .marks + j < length s = omega (arith, at .room, region .queue, region .lasts, region .links, region .store) in
           let before-queue : arena .marks + j + 1 ≤ arena .queue = omega (arith, region .queue) in
-          let before-list : arena .marks + j + 1 ≤ arena .store + t .from = omega (arith, region .queue, region .store) in
+          let before-list : arena .marks + j + 1 ≤ arena .store + t .from = omega (arith, region .queue, region .lasts, region .links, region .store) in
           queue-shows a (o .long) (stores-kept o (at .queue) (inr before-queue)) (stores-kept o (at .list) (inr before-list))
           (seen-new image arena s (x .number) (marked D [] before) j (at .seen) here) mark-below
 
@@ -318,7 +331,7 @@ module _ (arena : Arena) (x : Expansion) (s : List ℕ) (j u : ℕ) where
   unfolding fragmentNext fragmentWords
   fragment-again h = (rw h, rw h)
 
-  fragment-new : isMarked arena x s j ≡ false → arena .queue + x .queued < arena .store
+  fragment-new : isMarked arena x s j ≡ false → arena .queue + x .queued < arena .lasts
       → (fragmentNext arena x s j ≡ record { queued = x .queued + 1; listed = x .listed; number = x .number })
       × (fragmentWords arena x s j u ≡ set (set s (arena .marks + j) (x .number)) (arena .queue + x .queued) u)
   unfolding fragmentNext fragmentWords
@@ -342,25 +355,25 @@ module _ (image : List ℕ) (arena : Arena) (r : ℕ) (s : List ℕ) (x : Expans
   unfolding listWords
   step-field kind next words =
       rw (next, words) (step (length-set s (arena .store + x .listed) r) λ t before fresh at.
-      let region = places (t .good) (t .regions) in
+      let region = t .regions in
       let a = adds-field (documentOf image arena t) before r (field-kind (t .good) (t .sameShape) (t .sameArguments) r kind) in
       let room = list-room t before r fresh s x at a in
       let below : x .listed < 4294967295 = omega (arith, t .small) in
-      let ordered : arena .marks ≤ arena .store = omega (arith, region .queue, region .store) in
+      let ordered : arena .marks ≤ arena .store = omega (arith, region .queue, region .lasts, region .links, region .store) in
       rw (← listed-further x below) (field-shows t before r fresh s x at a, framed-last (x .listed) ordered (set-outside s (arena .store + x .listed) r)))
 
   pub step-inline : {s′ : List ℕ} {x′ : Expansion} {u : ℕ} → selectionKind image r ≡ columns.inline → u ≡ selectionTarget image r
       → x′ ≡ queueNext arena x → s′ ≡ queueWords arena x s u → Steps image arena (r ∷ []) s s′ x x′
   step-inline kind e next words =
       rw (next, words, e) (step (length-queue arena x s (selectionTarget image r)) λ t before fresh at.
-      let region = places (t .good) (t .regions) in
+      let region = t .regions in
       let own = t .good .selection r (fresh-last before r fresh) .inline-owned kind in
       let one = inline-set (t .good) (t .sameShape) (t .sameArguments) r kind own in
       let a = adds-inline (documentOf image arena t) before r one (inline-kind (t .good) (t .sameShape) (t .sameArguments) r kind) in
       let room = queue-room t before r fresh s x at a in
       let above : arena .marks ≤ arena .queue + x .queued = omega (arith, region .queue) in
       rw (queue-next arena x s (selectionTarget image r) room, queue-words arena x s (selectionTarget image r) room)
-      (inline-shows t before r fresh s x at a, framed-inner (x .listed) above room (set-outside s (arena .queue + x .queued) (selectionTarget image r))))
+      (inline-shows t before r fresh s x at a, framed-inner (x .listed) above room (omega (arith, region .links, region .store)) (set-outside s (arena .queue + x .queued) (selectionTarget image r))))
 
   -- a spread whose fragment is j
   spread-next : (t : Task image arena) (before : List ℕ) → Fresh image (before ++ (r ∷ [])) → Shows image arena t before s x
@@ -377,7 +390,7 @@ module _ (image : List ℕ) (arena : Arena) (r : ℕ) (s : List ℕ) (x : Expans
           × Framed image arena s (fragmentWords arena x s j (fragmentSet image j)) (x .listed) (fragmentNext arena x s j .listed)
 
       region : Places image arena
-      region = places (t .good) (t .regions)
+      region = t .regions
 
       less : j < countAt image fragments
       less = omega (arith, t .good .selection r (fresh-last before r fresh) .spread-target kind)
@@ -398,12 +411,13 @@ module _ (image : List ℕ) (arena : Arena) (r : ℕ) (s : List ℕ) (x : Expans
           let now = fragment-new arena x s j (fragmentSet image j) (at .seen j less ∙ h) room in
           let above : arena .marks ≤ arena .queue + x .queued = omega (arith, region .queue) in
           let here : arena .marks ≤ arena .marks + j = omega arith in
-          let there : arena .marks + j < arena .store = omega (arith, less, region .queue, region .store) in
+          let there : arena .marks + j < arena .lasts = omega (arith, less, region .queue, region .lasts) in
+          let ordered : arena .lasts ≤ arena .store = omega (arith, region .links, region .store) in
           let s₁ = set s (arena .marks + j) (x .number) in
           rw (now .0, now .1, fragment-set-is (t .good) less) (
             new-shows t before r fresh s x at j less a,
-            framed-trans (omega arith) (omega arith) (framed-inner (x .listed) here there (set-outside s (arena .marks + j) (x .number)))
-                (framed-inner (x .listed) above room (set-outside s₁ (arena .queue + x .queued) (countAt image operations + j))),
+            framed-trans (omega arith) (omega arith) (framed-inner (x .listed) here there ordered (set-outside s (arena .marks + j) (x .number)))
+                (framed-inner (x .listed) above room ordered (set-outside s₁ (arena .queue + x .queued) (countAt image operations + j))),
           )
 
   pub step-spread : {s′ : List ℕ} {x′ : Expansion} (j : ℕ) → (selectionKind image r ≡ columns.field → ⊥) → (selectionKind image r ≡ columns.inline → ⊥)

@@ -16,10 +16,11 @@ use Rattle.tables.specs.Image.{countAt}
 use Rattle.selection.specs.declared.arena.Arena.{Arena}
 use Rattle.selection.specs.declared.arena.Walk as states
 use Rattle.selection.specs.ImageDocument.{documentBy, limitOfLinks}
-use Rattle.selection.specs.Regions.{arenaOf}
+use Rattle.selection.specs.Regions.{arenaOf, Places}
 use Rattle.selection.specs.Refining.{document, passOf, replyOf, mostWork, Holds, Tells, Ample, Site}
 use Rattle.selection.specs.Validating.{Within, Runs, Checkable, Validates}
-use Rattle.selection.proofs.StepLaws.{Places, places}
+use Rattle.selection.proofs.StepLaws.{places, links-fit}
+use Rattle.selection.proofs.StandLaws.{classed-kept, in-front}
 use Rattle.selection.proofs.RefineLaws.{tells-go, tells-stop}
 
 reply-is : (s : List ℕ) (store op : ℕ) (z : states.Walk) (r : Result) → Tells s store op z r → (r ≡ deep → ⊥) → z .reply ≡ replyOf op r
@@ -52,7 +53,7 @@ atStart operation used = record { reply = record { kind = 0; operation = operati
 pub ample-start : (work : ℕ) {budget : ℕ} (operation used : ℕ) → budget ≡ min work mostWork → Ample budget 0 (atStart operation used)
 ample-start work operation used e = record { going = refl; paid = omega arith; few = omega arith; counted = omega arith; countable = omega arith; budget = omega (arith, e) }
 
-module _ {image : List ℕ} {arena : Arena} {work budget operation used n : ℕ} {s s₁ s₂ : List ℕ} {z₁ : states.Walk} (is-arena : arena ≡ arenaOf image) (is-budget : budget ≡ min work mostWork)
+module _ {image : List ℕ} {arena : Arena} {work budget operation used n : ℕ} {s s₁ s₂ : List ℕ} {z₁ : states.Walk} (is-arena : arena ≡ arenaOf image budget) (is-budget : budget ≡ min work mostWork)
     (is-count : n ≡ countAt image fragments) (cleared : s₁ ≡ write s (arena .marks) (blank (min n (length s - arena .marks))))
     (long₁ : length s₁ ≡ length s) (first : Runs image arena budget operation s₁ s₂ (atStart operation used) true z₁) where
   module _ (can : Checkable image work operation used s) where
@@ -60,7 +61,7 @@ module _ {image : List ℕ} {arena : Arena} {work budget operation used n : ℕ}
     all-work = omega (arith, is-budget, can .small)
 
     regions : Places image arena
-    regions = places (can .good) is-arena
+    regions = places budget (can .good) is-arena
 
     room : arena .store + budget + 1 + countAt image selections ≤ length s
     room = rw (is-arena, all-work) (can .room)
@@ -69,13 +70,13 @@ module _ {image : List ℕ} {arena : Arena} {work budget operation used n : ℕ}
     words = min n (length s - arena .marks)
 
     all-marks : min n (length s - arena .marks) ≡ countAt image fragments
-    all-marks = omega (arith, is-count, room, regions .queue, regions .store)
+    all-marks = omega (arith, is-count, room, regions .queue, regions .lasts, regions .links, regions .store)
 
     size : length (blank (min n (length s - arena .marks))) ≡ countAt image fragments
     size = length-replicate (min n (length s - arena .marks)) 0 ∙ all-marks
 
     fits : arena .marks + length (blank (min n (length s - arena .marks))) ≤ length s
-    fits = omega (arith, size, room, regions .queue, regions .store)
+    fits = omega (arith, size, room, regions .queue, regions .lasts, regions .links, regions .store)
 
     outside : Outside (arena .marks) (length (blank (min n (length s - arena .marks)))) s s₁
     outside = rw cleared (write-outside s (arena .marks) (blank (min n (length s - arena .marks))) fits)
@@ -89,9 +90,11 @@ module _ {image : List ℕ} {arena : Arena} {work budget operation used n : ℕ}
     unfolding documentBy
     site = record {
       good = can .good;
-      regions = is-arena;
+      regions = regions;
+      spread = omega (arith, links-fit budget (can .good) is-arena (omega (arith, is-budget)));
       sound = can .sound;
-      parents = λ r h. outside .below r (omega (arith, regions .marks)) ∙ can .parents r h;
+      parents = λ r h. outside .below r (omega (arith, in-front regions)) ∙ can .prepared .parents r h;
+      classes = classed-kept (λ k h. outside .below k (omega (arith, in-front regions))) (can .prepared .classes);
       room = rw long₁ room;
       marks = λ j h. rw (mark-zero j h) (omega arith);
       within = omega (arith, all-work, can .within);
@@ -103,7 +106,7 @@ module _ {image : List ℕ} {arena : Arena} {work budget operation used n : ℕ}
         record {
           long = f .long ∙ long₁;
           below = λ k h. f .below k h ∙ outside .below k h;
-          beyond = λ k h. f .beyond k h ∙ outside .above k (omega (arith, size, regions .queue, regions .store));
+          beyond = λ k h. f .beyond k h ∙ outside .above k (omega (arith, size, regions .queue, regions .lasts, regions .links, regions .store));
         }
 
     shaped : Tells s₂ (arena .store) operation z₁ (walk (document image) (passOf image true) budget (suc limitOfLinks) (operation ∷ []) [] used)
@@ -115,8 +118,8 @@ module _ {image : List ℕ} {arena : Arena} {work budget operation used n : ℕ}
     shallow : after (walk (document image) (passOf image true) budget (suc limitOfLinks) (operation ∷ []) [] used) (secondPass image budget operation) ≡ deep → ⊥
     shallow e = never-deep (document image) (can .sound) work used operation start (sym whole ∙ e)
 
-    as-promised : {s′ : List ℕ} → Within image arena budget s s′ → Within image (arenaOf image) work s s′
-    as-promised {s′} w = subst (λ (a : Arena). Within image a work s s′) is-arena (subst (λ (b : ℕ). Within image arena b s s′) all-work w)
+    as-promised : {s′ : List ℕ} → Within image arena budget s s′ → Within image (arenaOf image work) work s s′
+    as-promised {s′} w = subst (λ (a : Arena). Within image a work s s′) (is-arena ∙ ap (arenaOf image) all-work) (subst (λ (b : ℕ). Within image arena b s s′) all-work w)
 
   -- the shape pass found a conflict, or ran out
   pub ends-early : (z₁ .reply .kind ≡ 0 → ⊥) → Validates image work operation used s s₂ (z₁ .reply)

@@ -1,9 +1,9 @@
 -- What comparing the fields of a part, and queueing their sets, promises. Assumes nothing.
 use mathlib.Core.Path.{_≡_}
-use mathlib.Core.Bool.{Bool, cond, not, _&&_}
+use mathlib.Core.Bool.{Bool, true, false, cond, not, _&&_}
 use mathlib.Core.Option.{Option, none, some}
-use mathlib.Core.List.{List, _++_}
-use Prim.Native.Nat.{ℕ, _+_, _-_, _≤_}
+use mathlib.Core.List.{List, [], _∷_, _++_}
+use Prim.Native.Nat.{ℕ, _+_, _-_, _≤_, _<_}
 use lib.Dec.{eqb}
 use lib.ListN.{length}
 use Rattle.lists.specs.Part.{Stores, Outside}
@@ -18,10 +18,11 @@ use Rattle.selection.specs.declared.arena.List as places
 use Rattle.selection.specs.declared.expand.Expansion.{Expansion}
 use Rattle.selection.specs.declared.groups.Segment.{Segment}
 use Rattle.selection.specs.declared.groups.Part.{Part}
-use Rattle.selection.specs.KnownLists.{AtHand}
-use Rattle.selection.specs.Places.{onward}
+use Rattle.selection.specs.Standing.{Stands}
+use Rattle.selection.specs.Places.{rowIn, onward}
 use Rattle.selection.specs.Expanding.{queueNext, queueWords}
-use Rattle.selection.specs.Grouping.{member, Grounded, PartAt}
+use Rattle.selection.specs.Grouping.{member, Proper, Grounded, PartAt}
+use Rattle.selection.specs.Following.{Threaded, Follows}
 use Rattle.selection.specs.Refining.{document, passOf, Holds, Tells, Site, Rows}
 
 -- the reply kind of what two fields conflict in; 0 where they do not
@@ -37,13 +38,13 @@ conflicted kind a b z = record {
   expansions = z .expansions;
 }
 
--- a field against those of a segment from a place on
+-- a field against those of a segment from one of its places on
 pub record ComparesSegment (image s : List ℕ) (arena : Arena) (z : states.Walk) (x : places.List) (g : Segment) (isShape : Bool) (a from : ℕ) (r : states.Walk) : Type 0 where
   pub same : r .reply .kind ≡ 0 → r ≡ z
   pub known : r .known ≡ z .known
   pub operation : r .reply .operation ≡ z .reply .operation
-  pub tells : (l : List ℕ) → Grounded (document image) image s (arena .store) x l → x .start ≤ from
-      → (ls : List (List ℕ)) (used : ℕ) → Holds s (arena .store) (z .reply .operation) z ls used
+  pub tells : (l : List ℕ) → Grounded (document image) image s (arena .store) x l → Follows image s arena g x → x .start ≤ from
+      → (from < x .end → member (document image) g (rowIn s (arena .store) from) ≡ true) → (ls : List (List ℕ)) (used : ℕ) → Holds s (arena .store) (z .reply .operation) z ls used
       → Tells s (arena .store) (z .reply .operation) r (against (passOf image isShape .clash) a (filter (member (document image) g) (onward x l from)) ls used)
 
 -- the first field of a part against each other
@@ -51,7 +52,7 @@ pub record ComparesPart (image s : List ℕ) (arena : Arena) (z : states.Walk) (
   pub same : r .reply .kind ≡ 0 → r ≡ z
   pub known : r .known ≡ z .known
   pub operation : r .reply .operation ≡ z .reply .operation
-  pub tells : (l rows : List ℕ) → Grounded (document image) image s (arena .store) (part .list) l → PartAt (document image) s (arena .store) l part rows
+  pub tells : (l rows : List ℕ) → Grounded (document image) image s (arena .store) (part .list) l → Threaded image s arena (part .list) → PartAt (document image) s (arena .store) l part rows
       → (ls : List (List ℕ)) (used : ℕ) → Holds s (arena .store) (z .reply .operation) z ls used
       → Tells s (arena .store) (z .reply .operation) r (compareFirst (passOf image isShape .clash) rows ls used)
 
@@ -67,26 +68,32 @@ fieldNext image arena x row = cond (hasSet image row) (queueNext arena x) x
 unfoldable pub fieldWords : List ℕ → Arena → Expansion → List ℕ → ℕ → List ℕ
 fieldWords image arena x s row = cond (hasSet image row) (queueWords arena x s (selectionTarget image row)) s
 
+-- r says that a part is one field without a set
+pub record Bare (image s : List ℕ) (arena : Arena) (part : Part) (r : Bool) : Type 0 where
+  pub alone : r ≡ true → (l rows : List ℕ) → Grounded (document image) image s (arena .store) (part .list) l → Threaded image s arena (part .list)
+      → PartAt (document image) s (arena .store) l part rows → rows ≡ rowIn s (arena .store) (part .first) ∷ []
+  pub leaf : r ≡ true → hasSet image (rowIn s (arena .store) (part .first)) ≡ false
+
 -- fields whose sets are queued behind others: what then stands there, and that only the queue's words changed
 pub record Queues (image : List ℕ) (arena : Arena) (s s′ : List ℕ) (x x′ : Expansion) (sets rows : List ℕ) : Type 0 where
   pub queue : Stores s′ (arena .queue) (x′ .queued) (sets ++ setsBelow (document image) rows)
-  pub frame : Outside (arena .queue) (arena .store - arena .queue) s s′
+  pub frame : Outside (arena .queue) (arena .lasts - arena .queue) s s′
 
 -- where the list stands in the words, with room for the sets
 pub record CanQueue (image : List ℕ) (arena : Arena) (work op : ℕ) (s : List ℕ) (z : states.Walk) (x : places.List) (l : List ℕ) (e : Expansion) (sets rows : List ℕ) : Type 0 where
   pub site : Site image arena work op s z
-  pub stands : AtHand s (arena .store) x l
+  pub stands : Stands arena s x l
   pub ordered : x .start ≤ x .end
   pub listed : Rows image arena work op l
   pub queue : Stores s (arena .queue) (e .queued) sets
-  pub fits : arena .queue + length (sets ++ setsBelow (document image) rows) ≤ arena .store
+  pub fits : arena .queue + length (sets ++ setsBelow (document image) rows) ≤ arena .lasts
 
 pub record QueuesSegment (image : List ℕ) (arena : Arena) (s s′ : List ℕ) (e e′ : Expansion) (x : places.List) (g : Segment) (from : ℕ) : Type 0 where
   pub listed : e′ .listed ≡ e .listed
   pub number : e′ .number ≡ e .number
   pub long : length s′ ≡ length s
-  pub queues : (work op : ℕ) (z : states.Walk) (l sets : List ℕ) → x .start ≤ from
-      → CanQueue image arena work op s z x l e sets (filter (member (document image) g) (onward x l from))
+  pub queues : (work op : ℕ) (z : states.Walk) (l sets : List ℕ) → x .start ≤ from → (from < x .end → member (document image) g (rowIn s (arena .store) from) ≡ true)
+      → Proper (document image) g → CanQueue image arena work op s z x l e sets (filter (member (document image) g) (onward x l from))
       → Queues image arena s s′ e e′ sets (filter (member (document image) g) (onward x l from))
 
 pub record QueuesPart (image : List ℕ) (arena : Arena) (s s′ : List ℕ) (e e′ : Expansion) (part : Part) : Type 0 where

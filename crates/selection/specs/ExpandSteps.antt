@@ -19,7 +19,7 @@ use Rattle.tables.specs.Good.{Good}
 use Rattle.selection.specs.declared.arena.Arena.{Arena}
 use Rattle.selection.specs.declared.expand.Expansion.{Expansion}
 use Rattle.selection.specs.ImageDocument.{documentBy}
-use Rattle.selection.specs.Regions.{arenaOf}
+use Rattle.selection.specs.Regions.{Places}
 use Rattle.selection.specs.Expanding.{Once, StartSet, Fresh, MarksBelow, Framed}
 
 module _ (image : List ℕ) (arena : Arena) where
@@ -31,7 +31,7 @@ module _ (image : List ℕ) (arena : Arena) where
     pub from : ℕ
     pub number : ℕ
     pub good : Good image
-    pub regions : arena ≡ arenaOf image
+    pub regions : Places image arena
     pub allowed : Every (StartSet image) starts
     pub once : Once starts
     pub small : from + countAt image selections ≤ 4294967295

@@ -21,7 +21,7 @@ use Rattle.tables.specs.Good.{Good}
 use Rattle.selection.specs.declared.arena.Arena.{Arena}
 use Rattle.selection.specs.declared.expand.Expansion.{Expansion}
 use Rattle.selection.specs.ImageDocument.{documentBy}
-use Rattle.selection.specs.Regions.{arenaOf}
+use Rattle.selection.specs.Regions.{Places}
 
 -- no number is listed twice
 pub data Once : List ℕ → Type 0 where
@@ -32,7 +32,7 @@ pub data Once : List ℕ → Type 0 where
 
 -- whether the queue has room
 abbrev pub hasRoom : Arena → Expansion → Bool
-hasRoom arena x = ltb (arena .queue + x .queued) (arena .store)
+hasRoom arena x = ltb (arena .queue + x .queued) (arena .lasts)
 
 unfoldable pub queueNext : Arena → Expansion → Expansion
 queueNext arena x = cond (hasRoom arena x) (record { queued = x .queued + 1; listed = x .listed; number = x .number }) x
@@ -83,7 +83,7 @@ module _ (image : List ℕ) where
 
     pub record Expandable (s : List ℕ) (x : Expansion) (starts : List ℕ) : Type 0 where
       pub good : Good image
-      pub regions : arena ≡ arenaOf image
+      pub regions : Places image arena
       pub queue : Stores s (arena .queue) (x .queued) starts
       pub allowed : Every StartSet starts
       pub once : Once starts
@@ -92,10 +92,12 @@ module _ (image : List ℕ) where
       -- places in the store are words
       pub small : x .listed + countAt image selections ≤ 4294967295
 
-    -- what stays: the parents, the store below the list that begins at `from`, and what lies behind the list's end
+    -- what stays: the parents and classes, the links, the store below the list that begins at `from`, and what lies behind the
+    -- list's end
     pub record Framed (s s′ : List ℕ) (from end : ℕ) : Type 0 where
       pub long : length s′ ≡ length s
       pub parents : (k : ℕ) → k < arena .marks → getD s′ k 0 ≡ getD s k 0
+      pub links : (k : ℕ) → arena .lasts ≤ k → k < arena .store → getD s′ k 0 ≡ getD s k 0
       pub known : (k : ℕ) → arena .store ≤ k → k < arena .store + from → getD s′ k 0 ≡ getD s k 0
       pub beyond : (k : ℕ) → arena .store + end ≤ k → getD s′ k 0 ≡ getD s k 0
 

@@ -55,10 +55,18 @@ module _ (image s : List ℕ) where
     abbrev pub parentAt : ℕ → ℕ
     parentAt place = getD s (rowIn s store place) 0
 
+    -- the segments that a field is in: that of its name, and that of its name and parent
+    abbrev pub nameSegment : ℕ → Segment
+    nameSegment place = segment (nameAt place) everyParent 0
+
+    abbrev pub pairSegment : ℕ → Segment
+    pairSegment place =
+        cond (hasObjectParent (rowIn s store place)) (segment (nameAt place) oneParent (parentAt place)) (segment (nameAt place) abstractParent 0)
+
     module _ (x : places.List) where
       -- no earlier field of the list has this one's response name
       unfoldable pub isFirstOfName : ℕ → Bool
-      isFirstOfName place = eqb (memberPlace (segment (nameAt place) everyParent 0) (x .start) place) place
+      isFirstOfName place = eqb (memberPlace (nameSegment place) (x .start) place) place
 
       -- a field of that name with an object for its parent, and none before it has both
       unfoldable pub opensSubgroup : ℕ → ℕ → Bool
@@ -72,9 +80,13 @@ module _ (image s : List ℕ) where
       abbrev pub subgroupPlace : ℕ → ℕ → ℕ
       subgroupPlace name from = seek (opensSubgroup name) from (x .end)
 
+      -- the first field of a group whose parent is no object
+      abbrev pub othersPlace : ℕ → ℕ
+      othersPlace group = memberPlace (segment (nameAt group) abstractParent 0) group (x .end)
+
       -- a group's first subgroup: that of its first object parent, or all of it where there is none
       abbrev pub opening : (group place : ℕ) → Cursor
-      opening group place = record { group = group; first = cond (ltb place (x .end)) place group }
+      opening group place = record { group = group; first = cond (ltb place (x .end)) place group; others = othersPlace group }
 
       unfoldable pub firstSubgroup : ℕ → Cursor
       firstSubgroup group = opening group (subgroupPlace (nameAt group) group)
@@ -86,7 +98,7 @@ module _ (image s : List ℕ) where
       -- that one, or the first of the next group
       unfoldable pub nextSubgroup : Cursor → Cursor
       nextSubgroup c =
-          cond (ltb (laterSubgroup c) (x .end)) (record { group = c .group; first = laterSubgroup c }) (firstSubgroup (groupPlace (c .group + 1)))
+          cond (ltb (laterSubgroup c) (x .end)) (record { group = c .group; first = laterSubgroup c; others = c .others }) (firstSubgroup (groupPlace (c .group + 1)))
 
       -- a name group, and a subgroup, as parts
       abbrev pub wholePart : (first : ℕ) → Segment → Part
@@ -102,7 +114,7 @@ module _ (image s : List ℕ) where
             list = x;
             first = c .first;
             front = segment (nameAt (c .group)) oneParent (parentAt (c .first));
-            next = c .group;
+            next = c .others;
             back = segment (nameAt (c .group)) abstractParent 0;
           })
           (wholePart (c .first) (segment (nameAt (c .group)) abstractParent 0))
@@ -118,10 +130,20 @@ pub record Grounded (D : Document) (image s : List ℕ) (store : ℕ) (x : place
   pub objects : (t : ℕ) → eqb (typeKind image t) objectType ≡ D .isObject t
   pub parents : (p : ℕ) → x .start ≤ p → p < x .end → getD s (rowIn s store p) 0 ≡ D .parentOf (rowIn s store p)
 
--- a part of a list l that stands in the words: its first field is one of the front segment's, and its fields are these rows
+-- the segments of parts: one parent is an object
+pub data Proper (D : Document) : Segment → Type 0 where
+  of-all : (name : ℕ) → Proper D (segment name everyParent 0)
+  of-object : (name parent : ℕ) → D .isObject parent ≡ true → Proper D (segment name oneParent parent)
+  of-others : (name : ℕ) → Proper D (segment name abstractParent 0)
+
+-- a part of a list l that stands in the words: its first field is one of the front segment's, the next one, if there is one, of the
+-- back segment's, and its fields are these rows
 pub record PartAt (D : Document) (s : List ℕ) (store : ℕ) (l : List ℕ) (part : Part) (rows : List ℕ) : Type 0 where
   pub from : part .list .start ≤ part .first
   pub below : part .first < part .list .end
   pub behind : part .list .start ≤ part .next
   pub heads : member D (part .front) (rowIn s store (part .first)) ≡ true
+  pub starts : part .next < part .list .end → member D (part .back) (rowIn s store (part .next)) ≡ true
+  pub front-proper : Proper D (part .front)
+  pub back-proper : Proper D (part .back)
   pub fields : partRows D l part ≡ rows

@@ -6,7 +6,12 @@ pub mod ExpandSteps
 pub mod Parents
 pub mod KnownLists
 pub mod Places
+pub mod Classes
+pub mod Linking
+pub mod Classing
+pub mod Standing
 pub mod Grouping
+pub mod Following
 pub mod Refining
 pub mod Comparing
 pub mod Validating

@@ -4,12 +4,12 @@
 --     Ample work more z      what keeps the state's numbers small, whatever the image is
 --     Site ..                what a step needs of the image, the words and the state
 --     Rows ..                what is known of the rows of a list
---     Kept ..                what stays: the parents, the known lists, and what lies behind the room
+--     Kept ..                what stays: the parents, the known lists and their links, and what lies behind the room
 --     Refines step ..        code that goes from s and z to s′ and z′ does what the step does
 use mathlib.Core.Path.{_≡_}
 use mathlib.Core.Bool.{Bool, true, false, cond}
 use mathlib.Core.List.{List, [], _∷_, _++_}
-use Prim.Native.Nat.{ℕ, zero, suc, _+_, _-_, _≤_, _<_}
+use Prim.Native.Nat.{ℕ, zero, suc, _+_, _-_, _*_, _≤_, _<_}
 use lib.Dec.{eqb, leb}
 use lib.ListN.{length, getD, set}
 use Rattle.lists.specs.Part.{Stores}
@@ -30,9 +30,12 @@ use Rattle.selection.specs.declared.expand.Expansion.{Expansion}
 use Rattle.selection.specs.declared.walk.Met.{Met}
 use Rattle.selection.specs.declared.groups.Part.{Part}
 use Rattle.selection.specs.ImageDocument.{documentBy}
-use Rattle.selection.specs.Regions.{arenaOf}
+pub use Rattle.selection.specs.Regions.{mostWork}
+use Rattle.selection.specs.Regions.{Places}
 use Rattle.selection.specs.Expanding.{MarksBelow, Once, StartSet}
 use Rattle.selection.specs.KnownLists.{Known, AtHand, Decides}
+use Rattle.selection.specs.Classes.{Classed}
+use Rattle.selection.specs.Standing.{Stands}
 use Rattle.selection.specs.Grouping.{PartAt}
 
 abbrev pub document : List ℕ → Document
@@ -41,10 +44,6 @@ document image = documentBy (sameShape image) (sameArguments image) image
 abbrev pub passOf : List ℕ → Bool → Pass
 passOf image true = shapePass (document image)
 passOf image false = parentPass (document image)
-
--- no budget is larger: kind 2 is given before
-abbrev pub mostWork : ℕ
-mostWork = 1000000
 
 -- ---- what a state says
 
@@ -129,9 +128,11 @@ module _ (image : List ℕ) (arena : Arena) (work op : ℕ) where
 
   pub record Site (s : List ℕ) (z : states.Walk) : Type 0 where
     pub good : Good image
-    pub regions : arena ≡ arenaOf image
+    pub regions : Places image arena
+    pub spread : arena .links + 4 * (work + 1 + countAt image selections) ≤ arena .store
     pub sound : Sound (document image) Hand
     pub parents : (r : ℕ) → r < countAt image selections → getD s r 0 ≡ document image .parentOf r
+    pub classes : Classed image s
     pub room : arena .store + work + 1 + countAt image selections ≤ length s
     pub marks : MarksBelow image arena s (z .expansions + 1)
     pub within : z .reply .used ≤ work
@@ -144,6 +145,7 @@ module _ (image : List ℕ) (arena : Arena) (work op : ℕ) where
   pub record Kept (s s′ : List ℕ) (z z′ : states.Walk) : Type 0 where
     pub long : length s′ ≡ length s
     pub parents : (k : ℕ) → k < arena .marks → getD s′ k 0 ≡ getD s k 0
+    pub links : (k : ℕ) → arena .links ≤ k → k < arena .links + 4 * z .known → getD s′ k 0 ≡ getD s k 0
     pub known : (k : ℕ) → arena .store ≤ k → k < arena .store + z .known → getD s′ k 0 ≡ getD s k 0
     pub beyond : (k : ℕ) → arena .store + work + 1 + countAt image selections ≤ k → getD s′ k 0 ≡ getD s k 0
     pub grows : z .known ≤ z′ .known
@@ -170,7 +172,7 @@ module _ (image : List ℕ) (arena : Arena) (work op : ℕ) where
   -- a list that was entered: it stands in the store, and the step goes on as its walk
   pub record Entered (P : Pass) (step : ℕ → Step) (s s′ : List ℕ) (z : states.Walk) (m : Met) : Type 0 where
     pub list : List ℕ
-    pub stands : AtHand s′ (arena .store) (m .list) list
+    pub stands : Stands arena s′ (m .list) list
     pub ordered : m .list .start ≤ m .list .end
     pub rows : Rows list
     pub stored : m .list .end ≤ m .walk .known
@@ -206,7 +208,7 @@ pub record MeetsPart (image : List ℕ) (arena : Arena) (work : ℕ) (s s′ : L
   pub operation : m .walk .reply .operation ≡ z .reply .operation
   pub going : m .deeper ≡ true → m .walk .reply .kind ≡ 0
   pub ample : m .walk .reply .kind ≡ 0 → Ample work 0 (m .walk)
-  pub meets : (l rows : List ℕ) → Site image arena work (z .reply .operation) s z → AtHand s (arena .store) (part .list) l → part .list .start ≤ part .list .end
+  pub meets : (l rows : List ℕ) → Site image arena work (z .reply .operation) s z → Stands arena s (part .list) l → part .list .start ≤ part .list .end
       → Rows image arena work (z .reply .operation) l → PartAt (document image) s (arena .store) l part rows → Rows image arena work (z .reply .operation) rows
       → Meets image arena work (z .reply .operation) (passOf image isShape) (λ levels. onePart image arena work (z .reply .operation) (passOf image isShape) levels rows) s s′ z m
 
@@ -215,6 +217,6 @@ pub record WalksList (image : List ℕ) (arena : Arena) (work : ℕ) (s s′ : L
   pub long : length s′ ≡ length s
   pub operation : z′ .reply .operation ≡ z .reply .operation
   pub ample : z′ .reply .kind ≡ 0 → Ample work 0 z′
-  pub walks : (l : List ℕ) → Site image arena work (z .reply .operation) s z → AtHand s (arena .store) x l → x .start ≤ x .end → x .end ≤ z .known
+  pub walks : (l : List ℕ) → Site image arena work (z .reply .operation) s z → Stands arena s x l → x .start ≤ x .end → x .end ≤ z .known
       → Rows image arena work (z .reply .operation) l
       → Refines image arena work (z .reply .operation) (walkList image arena work (z .reply .operation) (passOf image isShape) levels l) s s′ z z′

@@ -9,8 +9,6 @@ use Rattle.merge_theory.specs.Rule.{Reached}
 use Rattle.merge_theory.specs.Walk.{finished, Pass, walk, check}
 use Rattle.tables.specs.Layout.{operations, selections}
 use Rattle.tables.specs.Image.{countAt}
-use Rattle.tables.specs.Columns.{setParent}
-use Rattle.tables.specs.Selections.{homeSet}
 use Rattle.tables.specs.Good.{Good}
 use Rattle.selection.specs.declared.arena.Arena.{Arena}
 use Rattle.selection.specs.declared.arena.Reply.{Reply}
@@ -18,6 +16,7 @@ use Rattle.selection.specs.declared.arena.Walk as states
 use Rattle.selection.specs.declared.walk.Met.{Met}
 use Rattle.selection.specs.ImageDocument.{limitOfLinks}
 use Rattle.selection.specs.Regions.{arenaOf}
+use Rattle.selection.specs.Classes.{Prepared}
 use Rattle.selection.specs.Refining.{document, passOf, replyOf, mostWork, Tells, Ample, Site, Meets}
 
 -- a state that has forgotten the lists of another pass
@@ -55,12 +54,12 @@ pub record Checkable (image : List ℕ) (work operation used : ℕ) (s : List �
   pub good : Good image
   pub sound : Sound (document image) (Reached (document image) operation)
   pub row : operation < countAt image operations
-  pub parents : (r : ℕ) → r < countAt image selections → getD s r 0 ≡ setParent image (homeSet image r)
-  pub room : arenaOf image .store + work + 1 + countAt image selections ≤ length s
+  pub prepared : Prepared image s
+  pub room : arenaOf image work .store + work + 1 + countAt image selections ≤ length s
   pub small : work ≤ mostWork
   pub within : used ≤ work
 
 pub record Validates (image : List ℕ) (work operation used : ℕ) (s s′ : List ℕ) (r : Reply) : Type 0 where
   pub long : length s′ ≡ length s
   pub replies : Checkable image work operation used s → r ≡ replyOf operation (check (document image) work used operation)
-  pub frame : Checkable image work operation used s → Within image (arenaOf image) work s s′
+  pub frame : Checkable image work operation used s → Within image (arenaOf image work) work s s′

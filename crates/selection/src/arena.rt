@@ -7,14 +7,22 @@ use tables::count;
 use tables::most_rows;
 use tables::word;
 ghost use mathlib.Core.Path.{_≡_};
-ghost use Prim.Native.Nat.{_+_, _≤_};
+ghost use Prim.Native.Nat.{_+_, _*_, _≤_};
 ghost use Rattle.selection.specs.Regions.{rowsAtMost, arenaOf};
 
-// Where each region begins. The parent type of each selection's set stands from word 0 on; then the mark of each fragment, the
-// queue of sets, and the store of lists.
+// No budget is larger.
+pub const MOST_WORK: u32 = 1000000;
+
+// Where each region begins. The parent type of each selection's set stands from word 0 on; then, for each selection, the class of
+// its name, and that of its name and parent; the mark of each fragment; the queue of sets; the last place of each class; four
+// words of links for each place of the store; and the store of lists.
 pub struct Arena {
+    pub names: u32,
+    pub pairs: u32,
     pub marks: u32,
     pub queue: u32,
+    pub lasts: u32,
+    pub links: u32,
     pub store: u32,
 }
 
@@ -40,21 +48,32 @@ pub struct List {
 }
 
 // The rows of a table, but no more than it may have.
-fn rows_at_most(image: &[u32], table: u8) -> u32
+pub(crate) fn rows_at_most(image: &[u32], table: u8) -> u32
     ensures { λ r. ⌜ (r ≡ rowsAtMost (now (image .entry)) table) × (r ≤ 16384) ⌝ }
 {
     least(count(image, table), most_rows(word(image, 0), table))
 }
 
-pub fn arena_of(image: &[u32]) -> Arena
-    ensures { λ r. ⌜ r ≡ arenaOf (now (image .entry)) ⌝ }
+// A list takes as many places as it costs, so the paid ones fit into `work`; the one at hand has a length and at most all
+// selections.
+pub fn arena_of(image: &[u32], work: u32) -> Arena
+    ensures { λ r. ⌜ r ≡ arenaOf (now (image .entry)) work ⌝ }
 {
-    let marks = rows_at_most(image, SELECTIONS);
+    let rows = rows_at_most(image, SELECTIONS);
+    let pairs = rows + rows;
+    let marks = pairs + rows;
     let queue = marks + rows_at_most(image, FRAGMENTS);
-    let store = queue + rows_at_most(image, SETS);
+    let lasts = queue + rows_at_most(image, SETS);
+    let links = lasts + rows;
+    let room = least(work, MOST_WORK) + 1 + rows;
+    let store = links + 4 * room;
     Arena {
+        names: rows,
+        pairs,
         marks,
         queue,
+        lasts,
+        links,
         store,
     }
 }
@@ -64,4 +83,11 @@ pub fn in_region(start: u32, i: u32) -> usize
     ensures { λ r. ⌜ r ≡ start + i ⌝ }
 {
     (start as usize) + (i as usize)
+}
+
+// Where a word of a place's links stands.
+pub fn in_links(arena: Arena, place: u32, column: u32) -> usize
+    ensures { λ r. ⌜ r ≡ arena .links + 4 * place + column ⌝ }
+{
+    (arena.links as usize) + 4 * (place as usize) + (column as usize)
 }

@@ -32,7 +32,7 @@ pub fn queue_set(s: &mut [u32], arena: Arena, x: Expansion, set: u32) -> Expansi
     let mut next = x;
     let queued = x.queued;
     let at = in_region(arena.queue, queued);
-    if at < arena.store as usize {
+    if at < arena.lasts as usize {
         put(s, at, set);
         next.queued = queued + 1;
     }

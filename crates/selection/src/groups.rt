@@ -1,17 +1,22 @@
 // Groups and subgroups of a list, told by places: a group by the place of its first field, a subgroup also by that of its own
-// first field. Parents stand in the words from 0 on, one for each row. Every function is total, whatever the words are.
+// first field. They are read from the links between the list's places. Every function is total, whatever the words are; what it
+// finds is said of a list that is linked.
 use crate::arena::Arena;
 use crate::arena::List;
+use crate::arena::in_links;
 use crate::arena::in_region;
 use lists::get;
 use tables::columns::OBJECT;
 use tables::columns::response_name;
 use tables::columns::type_kind;
 ghost use mathlib.Core.Path.{_≡_};
+ghost use mathlib.Core.Bool.{not};
+ghost use lib.Dec.{eqb};
 ghost use Prim.Native.Nat.{_<_};
 ghost use lib.ListN.{getD};
 ghost use Rattle.selection.specs.Places.{rowIn};
-ghost use Rattle.selection.specs.Grouping.{hasObjectParent, belongs, memberPlace, isFirstOfName, opensSubgroup, groupPlace, subgroupPlace, firstSubgroup, laterSubgroup, nextSubgroup, groupPart, subgroupPart};
+ghost use Rattle.selection.specs.Grouping.{hasObjectParent, groupPart, subgroupPart};
+ghost use Rattle.selection.specs.Following.{linkAt, columnOf, followed, groupFound, opensAt, FindsSubgroup, FindsOthers, FirstSubgroup, LaterSubgroup, NextSubgroup};
 
 // Fields of one name: all of them, those of one parent, or those whose parent is no object.
 pub struct Segment {
@@ -26,6 +31,15 @@ pub const ONE_PARENT: u32 = 1;
 
 pub const ABSTRACT_PARENT: u32 = 2;
 
+// The four words of links of a place: the next and the first of its name, then of its name and parent.
+const NEXT_OF_NAME: u32 = 0;
+
+const FIRST_OF_NAME: u32 = 1;
+
+const NEXT_OF_PARENT: u32 = 2;
+
+const FIRST_OF_PARENT: u32 = 3;
+
 // What is compared, and whose sets are merged: the fields of a segment from a first one on, then those of another.
 pub struct Part {
     pub list: List,
@@ -35,10 +49,11 @@ pub struct Part {
     pub back: Segment,
 }
 
-// A subgroup: the places of its group's first field and of its own.
+// A subgroup: the places of its group's first field, of its own, and of the group's first field whose parent is no object.
 pub struct Cursor {
     pub group: u32,
     pub first: u32,
+    pub others: u32,
 }
 
 pub fn row_at(s: &[u32], arena: Arena, place: u32) -> u32
@@ -59,67 +74,40 @@ fn has_object_parent(image: &[u32], s: &[u32], row: u32) -> bool
     type_kind(image, parent_of(s, row)) == OBJECT
 }
 
-fn is_member(image: &[u32], s: &[u32], segment: Segment, row: u32) -> bool
-    ensures { λ r. ⌜ r ≡ belongs (now (image .entry)) (now (s .entry)) segment row ⌝ }
+// A word of a place's links.
+fn link_at(s: &[u32], arena: Arena, place: u32, column: u32) -> u32
+    ensures { λ r. ⌜ r ≡ linkAt (now (s .entry)) arena place column ⌝ }
 {
-    if response_name(image, row) != segment.name {
-        return false;
-    }
-    if segment.kind == EVERY_PARENT {
-        return true;
-    }
-    if segment.kind == ONE_PARENT {
-        return parent_of(s, row) == segment.parent;
-    }
-    if has_object_parent(image, s, row) {
-        false
+    get(s, in_links(arena, place, column))
+}
+
+// Which of the four leads to the next of a segment.
+fn column_of(kind: u32) -> u32
+    ensures { λ r. ⌜ r ≡ columnOf kind ⌝ }
+{
+    if kind == EVERY_PARENT {
+        NEXT_OF_NAME
     } else {
-        true
+        NEXT_OF_PARENT
     }
 }
 
-// The first place from one place on, and below another, that has a field of the segment.
-pub fn find_member(
-    image: &[u32],
-    s: &[u32],
-    arena: Arena,
-    segment: Segment,
-    from: u32,
-    end: u32,
-) -> u32
-    ensures { λ r. ⌜ r ≡ memberPlace (now (image .entry)) (now (s .entry)) (arena .store) segment from end ⌝ }
+// The next place of a segment, from one of its places; the end where there is none.
+pub fn follow(s: &[u32], arena: Arena, kind: u32, place: u32, end: u32) -> u32
+    ensures { λ r. ⌜ r ≡ followed (now (s .entry)) arena kind place end ⌝ }
 {
-    let mut place = from;
-    while place < end {
-        if is_member(image, s, segment, row_at(s, arena, place)) {
-            return place;
-        }
-        place += 1;
-    }
-    place
-}
-
-// Whether no earlier field of the list has this one's response name.
-fn is_first_of_name(image: &[u32], s: &[u32], arena: Arena, list: List, place: u32) -> bool
-    ensures { λ r. ⌜ r ≡ isFirstOfName (now (image .entry)) (now (s .entry)) (arena .store) list place ⌝ }
-{
-    let name = response_name(image, row_at(s, arena, place));
-    let named = Segment {
-        name,
-        kind: EVERY_PARENT,
-        parent: 0,
-    };
-    find_member(image, s, arena, named, list.start, place) == place
+    let next = link_at(s, arena, place, column_of(kind));
+    if place < next { next } else { end }
 }
 
 // The place of the first group from a place on.
-pub fn find_group(image: &[u32], s: &[u32], arena: Arena, list: List, from: u32) -> u32
-    ensures { λ r. ⌜ r ≡ groupPlace (now (image .entry)) (now (s .entry)) (arena .store) list from ⌝ }
+pub fn find_group(s: &[u32], arena: Arena, list: List, from: u32) -> u32
+    ensures { λ r. ⌜ r ≡ groupFound (now (s .entry)) arena from (list .end) ⌝ }
 {
     let end = list.end;
     let mut place = from;
     while place < end {
-        if is_first_of_name(image, s, arena, list, place) {
+        if link_at(s, arena, place, FIRST_OF_NAME) == place {
             return place;
         }
         place += 1;
@@ -127,64 +115,74 @@ pub fn find_group(image: &[u32], s: &[u32], arena: Arena, list: List, from: u32)
     place
 }
 
-// Whether a field has that name, an object for its parent, and none before it has both.
-fn opens_subgroup(image: &[u32], s: &[u32], arena: Arena, list: List, name: u32, place: u32) -> bool
-    ensures { λ r. ⌜ r ≡ opensSubgroup (now (image .entry)) (now (s .entry)) (arena .store) list name place ⌝ }
+// Whether a field has an object for its parent, and is the first of its name and parent.
+fn opens_subgroup(image: &[u32], s: &[u32], arena: Arena, place: u32) -> bool
+    ensures { λ r. ⌜ r ≡ opensAt (now (image .entry)) (now (s .entry)) arena place ⌝ }
 {
-    let row = row_at(s, arena, place);
-    if response_name(image, row) != name {
-        return false;
-    }
-    if has_object_parent(image, s, row) {
-        let parent = parent_of(s, row);
-        let same = Segment {
-            name,
-            kind: ONE_PARENT,
-            parent,
-        };
-        return find_member(image, s, arena, same, list.start, place) == place;
+    if has_object_parent(image, s, row_at(s, arena, place)) {
+        return link_at(s, arena, place, FIRST_OF_PARENT) == place;
     }
     false
 }
 
-// The place of the first subgroup of an object parent in the group of that name, from a place on.
-fn find_subgroup(image: &[u32], s: &[u32], arena: Arena, list: List, name: u32, from: u32) -> u32
-    ensures { λ r. ⌜ r ≡ subgroupPlace (now (image .entry)) (now (s .entry)) (arena .store) list name from ⌝ }
+// The place of the first subgroup of an object parent in a group, from a place of the group on.
+fn find_subgroup(image: &[u32], s: &[u32], arena: Arena, list: List, from: u32) -> u32
+    ensures { λ r. ⌜ FindsSubgroup (now (image .entry)) (now (s .entry)) arena list from r ⌝ }
 {
     let end = list.end;
     let mut place = from;
     while place < end {
-        if opens_subgroup(image, s, arena, list, name, place) {
+        if opens_subgroup(image, s, arena, place) {
             return place;
         }
-        place += 1;
+        place = follow(s, arena, EVERY_PARENT, place, end);
+    }
+    place
+}
+
+// The place of the first field of a group whose parent is no object.
+fn find_others(image: &[u32], s: &[u32], arena: Arena, list: List, group: u32) -> u32
+    ensures { λ r. ⌜ FindsOthers (now (image .entry)) (now (s .entry)) arena list group r ⌝ }
+{
+    let end = list.end;
+    let mut place = group;
+    while place < end {
+        if has_object_parent(image, s, row_at(s, arena, place)) {
+            place = follow(s, arena, EVERY_PARENT, place, end);
+        } else {
+            return place;
+        }
     }
     place
 }
 
 // A group's first subgroup: that of its first object parent, or all of it where there is none.
 pub fn first_subgroup(image: &[u32], s: &[u32], arena: Arena, list: List, group: u32) -> Cursor
-    ensures { λ r. ⌜ r ≡ firstSubgroup (now (image .entry)) (now (s .entry)) (arena .store) list group ⌝ }
+    ensures { λ r. ⌜ FirstSubgroup (now (image .entry)) (now (s .entry)) arena list group r ⌝ }
 {
-    let name = response_name(image, row_at(s, arena, group));
-    let first = find_subgroup(image, s, arena, list, name, group);
+    let others = find_others(image, s, arena, list, group);
+    let first = find_subgroup(image, s, arena, list, group);
     if first < list.end {
-        return Cursor { group, first };
+        return Cursor {
+            group,
+            first,
+            others,
+        };
     }
     Cursor {
         group,
         first: group,
+        others,
     }
 }
 
 // The place of the next subgroup of the same group; the list's end where there is none.
 fn later_subgroup(image: &[u32], s: &[u32], arena: Arena, list: List, cursor: Cursor) -> u32
-    requires { ⌜ cursor .first < list .end ⌝ }
-    ensures { λ r. ⌜ r ≡ laterSubgroup (now (image .entry)) (now (s .entry)) (arena .store) list cursor ⌝ }
+    ensures { λ r. ⌜ LaterSubgroup (now (image .entry)) (now (s .entry)) arena list cursor r ⌝ }
 {
     if has_object_parent(image, s, row_at(s, arena, cursor.first)) {
-        let name = response_name(image, row_at(s, arena, cursor.group));
-        return find_subgroup(image, s, arena, list, name, cursor.first + 1);
+        let next = follow(s, arena, EVERY_PARENT, cursor.first, list.end);
+        return find_subgroup(image, s, arena, list, next);
     }
     list.end
 }
@@ -197,21 +195,20 @@ pub(crate) fn next_subgroup(
     list: List,
     cursor: Cursor,
 ) -> Cursor
-    requires { ⌜ (cursor .group < list .end) × (cursor .first < list .end) ⌝ }
-    ensures { λ r. ⌜ r ≡ nextSubgroup (now (image .entry)) (now (s .entry)) (arena .store) list cursor ⌝ }
+    requires { ⌜ cursor .group < list .end ⌝ }
+    ensures { λ r. ⌜ NextSubgroup (now (image .entry)) (now (s .entry)) arena list cursor r ⌝ }
 {
     let group = cursor.group;
+    let others = cursor.others;
     let first = later_subgroup(image, s, arena, list, cursor);
     if first < list.end {
-        return Cursor { group, first };
+        return Cursor {
+            group,
+            first,
+            others,
+        };
     }
-    first_subgroup(
-        image,
-        s,
-        arena,
-        list,
-        find_group(image, s, arena, list, group + 1),
-    )
+    first_subgroup(image, s, arena, list, find_group(s, arena, list, group + 1))
 }
 
 // A name group as a part: all fields of its name, from the first one on.
@@ -253,7 +250,7 @@ pub fn subgroup_part(image: &[u32], s: &[u32], arena: Arena, list: List, cursor:
             kind: ONE_PARENT,
             parent,
         };
-        let next = cursor.group;
+        let next = cursor.others;
         return Part {
             list,
             first,

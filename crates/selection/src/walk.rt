@@ -2,6 +2,7 @@
 // any image; what it yields is the merge theory's walk where the image is good and the operation's sets are sound.
 use crate::arena::Arena;
 use crate::arena::List;
+use crate::arena::MOST_WORK;
 use crate::arena::Reply;
 use crate::arena::Walk;
 use crate::arena::arena_of;
@@ -11,8 +12,8 @@ use crate::expand::queue_set;
 use crate::groups::Part;
 use crate::groups::Segment;
 use crate::groups::find_group;
-use crate::groups::find_member;
 use crate::groups::first_subgroup;
+use crate::groups::follow;
 use crate::groups::group_part;
 use crate::groups::next_subgroup;
 use crate::groups::row_at;
@@ -20,6 +21,7 @@ use crate::groups::subgroup_part;
 use crate::known::is_known;
 use crate::known::keep;
 use crate::known::list_length;
+use crate::standing::link_list;
 use lists::clear;
 use lists::least;
 use tables::FRAGMENTS;
@@ -37,13 +39,10 @@ ghost use mathlib.Core.Bool.{true, false};
 ghost use Prim.Native.Nat.{_+_, _<_};
 ghost use Rattle.selection.specs.Refining.{charged, MeetsList, Ample, Begun, MeetsSets, MeetsPart, WalksList, passOf};
 ghost use Rattle.selection.specs.Validating.{MeetsOperation, Runs, Validates};
-ghost use Rattle.selection.specs.Comparing.{kindOfClash, conflicted, ComparesSegment, ComparesPart, fieldNext, fieldWords, QueuesSegment, QueuesPart};
+ghost use Rattle.selection.specs.Comparing.{kindOfClash, conflicted, ComparesSegment, ComparesPart, Bare, fieldNext, fieldWords, QueuesSegment, QueuesPart};
 
 // One more than the links of the document: a set lies fewer links below the operation's.
 const LEVELS: u32 = 502;
-
-// No budget is larger.
-pub const MOST_WORK: u32 = 1000000;
 
 // What has been met: the list, and whether it is new and paid, so that the walk goes deeper into it.
 pub struct Met {
@@ -112,7 +111,7 @@ fn begin_expansion(work: u32, walk: Walk) -> Expansion
     }
 }
 
-// The queued sets are expanded, and their list is met.
+// The queued sets are expanded, and their list is met; one that is new and paid is linked.
 fn meet_sets(image: &[u32], s: &mut [u32], arena: Arena, work: u32, walk: Walk, x: Expansion) -> Met
     requires { ⌜ Ample work 0 walk × Begun walk x ⌝ }
     ensures { λ r. ⌜ MeetsSets (now (image .entry)) arena work (now (s .entry)) (now (s .exit)) walk x r ⌝ }
@@ -123,7 +122,11 @@ fn meet_sets(image: &[u32], s: &mut [u32], arena: Arena, work: u32, walk: Walk, 
     let mut next = walk;
     let number = x.number;
     next.expansions = number;
-    meet_list(s, arena, work, next, list)
+    let met = meet_list(s, arena, work, next, list);
+    if met.deeper {
+        link_list(s, arena, met.list);
+    }
+    met
 }
 
 // 14 where two fields differ in shape, else 0.
@@ -171,7 +174,7 @@ fn conflict(walk: Walk, kind: u32, a: u32, b: u32) -> Walk
     next
 }
 
-// A field against those of a segment from a place on, in order.
+// A field against those of a segment, in order, from one of its places on.
 fn compare_segment(
     image: &[u32],
     s: &[u32],
@@ -186,24 +189,25 @@ fn compare_segment(
     ensures { λ r. ⌜ ComparesSegment (now (image .entry)) (now (s .entry)) arena walk list segment shape a from r ⌝ }
 {
     let end = list.end;
-    let mut place = find_member(image, s, arena, segment, from, end);
+    let mut place = from;
     while place < end {
         let b = row_at(s, arena, place);
         let kind = clash(image, shape, a, b);
         if kind != 0 {
             return conflict(walk, kind, a, b);
         }
-        place = find_member(image, s, arena, segment, place + 1, end);
+        place = follow(s, arena, segment.kind, place, end);
     }
     walk
 }
 
 // The first field of a part against each other, in order.
 fn compare_part(image: &[u32], s: &[u32], arena: Arena, walk: Walk, part: Part, shape: bool) -> Walk
-    requires { ⌜ part .first < part .list .end ⌝ }
     ensures { λ r. ⌜ ComparesPart (now (image .entry)) (now (s .entry)) arena walk part shape r ⌝ }
 {
     let a = row_at(s, arena, part.first);
+    let kind = part.front.kind;
+    let second = follow(s, arena, kind, part.first, part.list.end);
     let front = compare_segment(
         image,
         s,
@@ -213,10 +217,9 @@ fn compare_part(image: &[u32], s: &[u32], arena: Arena, walk: Walk, part: Part, 
         part.front,
         shape,
         a,
-        part.first + 1,
+        second,
     );
-    let kind = front.reply.kind;
-    if kind != 0 {
+    if front.reply.kind != 0 {
         return front;
     }
     compare_segment(
@@ -246,7 +249,7 @@ fn queue_field(image: &[u32], s: &mut [u32], arena: Arena, x: Expansion, row: u3
     queue_set(s, arena, x, set)
 }
 
-// The sets of a segment's fields from a place on are queued.
+// The sets of a segment's fields are queued, from one of its places on.
 fn queue_segment(
     image: &[u32],
     s: &mut [u32],
@@ -260,11 +263,11 @@ fn queue_segment(
 {
     let end = list.end;
     let mut next = x;
-    let mut place = find_member(image, &s[..], arena, segment, from, end);
+    let mut place = from;
     while place < end {
         let row = row_at(&s[..], arena, place);
         next = queue_field(image, s, arena, next, row);
-        place = find_member(image, &s[..], arena, segment, place + 1, end);
+        place = follow(&s[..], arena, segment.kind, place, end);
     }
     next
 }
@@ -277,6 +280,25 @@ fn queue_part(image: &[u32], s: &mut [u32], arena: Arena, x: Expansion, part: Pa
     queue_segment(image, s, arena, front, part.list, part.back, part.next)
 }
 
+// Whether a part is one field without a set, so that there is nothing to compare or to meet.
+fn is_bare(image: &[u32], s: &[u32], arena: Arena, part: Part) -> bool
+    ensures { λ r. ⌜ Bare (now (image .entry)) (now (s .entry)) arena part r ⌝ }
+{
+    let end = part.list.end;
+    if part.next < end {
+        return false;
+    }
+    let kind = part.front.kind;
+    if follow(s, arena, kind, part.first, end) < end {
+        return false;
+    }
+    let set = selection_target(image, row_at(s, arena, part.first));
+    if set == NONE {
+        return true;
+    }
+    is_empty_set(image, set)
+}
+
 // One part: compared, and its sets met.
 fn meet_part(
     image: &[u32],
@@ -287,11 +309,18 @@ fn meet_part(
     part: Part,
     shape: bool,
 ) -> Met
-    requires { ⌜ Ample work 0 walk × (part .first < part .list .end) ⌝ }
+    requires { ⌜ Ample work 0 walk ⌝ }
     ensures { λ r. ⌜ MeetsPart (now (image .entry)) arena work (now (s .entry)) (now (s .exit)) walk part shape r ⌝ }
 {
-    let compared = compare_part(image, &s[..], arena, walk, part, shape);
     let list = part.list;
+    if is_bare(image, &s[..], arena, part) {
+        return Met {
+            walk,
+            list,
+            deeper: false,
+        };
+    }
+    let compared = compare_part(image, &s[..], arena, walk, part, shape);
     let kind = compared.reply.kind;
     if kind != 0 {
         return Met {
@@ -330,7 +359,7 @@ fn same_response_shape_by_name(
     }
     let end = list.end;
     let mut next = walk;
-    let mut place = find_group(image, &s[..], arena, list, list.start);
+    let mut place = find_group(&s[..], arena, list, list.start);
     while place < end {
         let part = group_part(image, &s[..], arena, list, place);
         let met = meet_part(image, s, arena, work, next, part, true);
@@ -341,7 +370,7 @@ fn same_response_shape_by_name(
         if next.reply.kind != 0 {
             return next;
         }
-        place = find_group(image, &s[..], arena, list, place + 1);
+        place = find_group(&s[..], arena, list, place + 1);
     }
     next
 }
@@ -364,7 +393,7 @@ fn same_for_common_parents_by_name(
     }
     let end = list.end;
     let mut next = walk;
-    let group = find_group(image, &s[..], arena, list, list.start);
+    let group = find_group(&s[..], arena, list, list.start);
     let mut at = first_subgroup(image, &s[..], arena, list, group);
     while at.group < end {
         let part = subgroup_part(image, &s[..], arena, list, at);
@@ -455,8 +484,8 @@ pub fn validate_operation(
 ) -> Reply
     ensures { λ r. ⌜ Validates (now (image .entry)) work operation used (now (s .entry)) (now (s .exit)) r ⌝ }
 {
-    let arena = arena_of(image);
     let budget = least(work, MOST_WORK);
+    let arena = arena_of(image, budget);
     clear(s, arena.marks as usize, count(image, FRAGMENTS) as usize);
     let reply = Reply {
         kind: 0,

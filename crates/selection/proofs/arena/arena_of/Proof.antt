@@ -3,34 +3,46 @@ use mathlib.Core.Path.{_≡_}
 use borrow.Author.Needs.{needs}
 use native.Mathlib.Omega.{arith}
 use mathlib.Core.List.{List}
-use Prim.Native.Nat.{ℕ, _+_}
+use denote.Ref.{now}
+use Prim.Native.Nat.{ℕ, _+_, _*_, min}
 use Rattle.tables.specs.Layout.{fragments, sets, selections}
 use Rattle.selection.specs.declared.arena.Arena.{Arena}
-use Rattle.selection.specs.Regions.{rowsAtMost, arenaOf}
+use Rattle.selection.specs.Regions.{mostWork, rowsAtMost, roomOf, arenaOf}
 use Rattle.selection.proofs.arena.arena_of.Statement.{statement}
 use Rattle.selection.proofs.arena.arena_of.Tie as tie
 
-regions : (image : List ℕ) {m f s : ℕ} → m ≡ rowsAtMost image selections → f ≡ rowsAtMost image fragments → s ≡ rowsAtMost image sets
-    → _≡_ {A = Arena} (record { marks = m; queue = m + f; store = m + f + s }) (arenaOf image)
-unfolding arenaOf
-regions image m f s = rw (m, f, s)
-
-add-queue : tie.Need-add-queue
-add-queue c = omega arith
-
-add-store : tie.Need-add-store
-add-store c = omega arith
+regions : (image : List ℕ) (work : ℕ) {n f t b : ℕ} → n ≡ rowsAtMost image selections → f ≡ rowsAtMost image fragments → t ≡ rowsAtMost image sets → b ≡ min work mostWork
+    → _≡_ {A = Arena} (record {
+      names = n;
+      pairs = n + n;
+      marks = n + n + n;
+      queue = n + n + n + f;
+      lasts = n + n + n + f + t;
+      links = n + n + n + f + t + n;
+      store = n + n + n + f + t + n + 4 * (b + 1 + n);
+    }) (arenaOf image work)
+unfolding arenaOf roomOf
+regions image work n f t b = rw (n, f, t, b)
 
 returns : tie.Need-returns
-returns c = regions _ (c .before .before .rows-at-most .ensures .0) (c .before .rows-at-most2 .ensures .0) (c .rows-at-most3 .ensures .0)
+returns c =
+    regions (now (c .before .before .before .before .before .args .image)) (c .before .before .before .before .before .args .work) (c .before .before .before .rows-at-most .ensures .0) (c .before .before .rows-at-most2 .ensures .0) (c .before .rows-at-most3 .ensures .0) (c .least .ensures)
 
 pub arena-of-spec : {M : Type 1} → statement M
 arena-of-spec =
     tie.close
     (tie.spec
     (λ c κs. search needs)
+    (λ c. search needs)
+    (λ c. search needs)
     (λ c κs. search needs)
-    add-queue
+    (λ c. search needs)
     (λ c κs. search needs)
-    add-store
+    (λ c. search needs)
+    (λ c. search needs)
+    (λ c κs. search needs)
+    (λ c. search needs)
+    (λ c. search needs)
+    (λ c. search needs)
+    (λ c. search needs)
     returns)

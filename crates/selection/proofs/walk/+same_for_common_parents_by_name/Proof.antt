@@ -7,7 +7,7 @@ use Prim.Native.Nat.{_-_}
 use Rattle.selection.specs.Refining.{document, Ample}
 use Rattle.selection.proofs.PartLaws.{Along}
 use Rattle.selection.proofs.LoopLaws.{Stepped, PassLoop, stepped-flat, stepped-deeper, stepped-as, no-level, loop-stop}
-use Rattle.selection.proofs.ParentLaws.{toGo, below-first, ahead-next, subgroup-first, goes-down, parent-first, parent-turn, parent-found, parent-end}
+use Rattle.selection.proofs.ParentLaws.{toGo, goes-down, parent-first, parent-turn, parent-found, parent-end}
 use native.Mathlib.Omega.{arith}
 use Prim.Native.Nat.{ℕ, _<_}
 use borrow.Fn.Kinds.{In}
@@ -132,7 +132,7 @@ same-for-common-parents-by-name-loop-holds :
     same-for-common-parents-by-name-μ-loop
 same-for-common-parents-by-name-loop-holds t c =
     let a = c .before .before .before .before .before .before .before .args in
-    (parent-first (a .list) (a .level - 1) (c .before .before .before .before .before .before .before .pre .1) (c .before .before .find-group .ensures) (c .first-subgroup .ensures), (c .before .before .before .before .before .before .before .pre .1, below-first _ _ _ (a .list) _ (c .first-subgroup .ensures)))
+    (parent-first (a .list) (a .level - 1) (c .before .before .before .before .before .before .before .pre .1) (c .before .before .find-group .ensures) (c .first-subgroup .ensures), (c .before .before .before .before .before .before .before .pre .1, λ less. c .first-subgroup .ensures .below (rw (c .first-subgroup .ensures .same) at less)))
 
 same-for-common-parents-by-name-subgroup-part-requires :
     (t : ℕ) → same-for-common-parents-by-name-lts.Need-subgroup-part-requires (
@@ -174,7 +174,7 @@ same-for-common-parents-by-name-meet-part-requires :
     same-for-common-parents-by-name.Post
     same-for-common-parents-by-name-Inv-loop
     same-for-common-parents-by-name-μ-loop
-same-for-common-parents-by-name-meet-part-requires t c κs = (c .before .before .before .before .before .loop .inv .1 .0, subgroup-first _ _ _ (c .before .before .before .before .before .before .before .before .before .before .before .before .before .args .list) (c .before .before .before .before .before .loop .at) (c .before .subgroup-part .ensures) (c .before .before .before .before .before .loop .inv .1 .1 (c .before .before .before .if2 .taken)))
+same-for-common-parents-by-name-meet-part-requires t c κs = c .before .before .before .before .before .loop .inv .1 .0
 
 same-for-common-parents-by-name-sub-same-for-common-parents-by-name :
     (t : ℕ) → same-for-common-parents-by-name-lts.Need-sub-same-for-common-parents-by-name (
@@ -293,7 +293,7 @@ same-for-common-parents-by-name-next-subgroup-requires :
     same-for-common-parents-by-name.Post
     same-for-common-parents-by-name-Inv-loop
     same-for-common-parents-by-name-μ-loop
-same-for-common-parents-by-name-next-subgroup-requires t c κs = (c .before .before .before .before .before .before .before .before .before .before .before .if2 .taken, c .before .before .before .before .before .before .before .before .before .before .before .before .before .loop .inv .1 .1 (c .before .before .before .before .before .before .before .before .before .before .before .if2 .taken))
+same-for-common-parents-by-name-next-subgroup-requires t c κs = c .before .before .before .before .before .before .before .before .before .before .before .if2 .taken
 
 same-for-common-parents-by-name-loop-less :
     (t : ℕ) → same-for-common-parents-by-name-lts.Need-loop-less (
@@ -316,7 +316,7 @@ same-for-common-parents-by-name-loop-less :
     same-for-common-parents-by-name-μ-loop
 same-for-common-parents-by-name-loop-less t c =
     let a = c .before .before .before .before .before .before .before .before .before .before .before .before .before .before .before .before .before .before .before .before .before .before .args in
-    goes-down _ _ _ (a .list) (c .before .before .before .before .before .before .before .before .before .before .before .before .before .before .loop .at) (c .next-subgroup .result) (omega (arith, c .before .before .before .before .before .before .before .before .before .before .before .before .before .before .before .before .before .before .before .before .before .before .good .1 .1 .1 .1 .1 .0)) (c .before .before .before .before .before .before .before .before .before .before .before .before .if2 .taken) (c .before .before .before .before .before .before .before .before .before .before .before .before .before .before .loop .inv .1 .1 (c .before .before .before .before .before .before .before .before .before .before .before .before .if2 .taken)) (ahead-next _ _ _ (a .list) (c .before .before .before .before .before .before .before .before .before .before .before .before .before .before .loop .at) (c .next-subgroup .ensures))
+    goes-down _ _ _ (a .list) (c .before .before .before .before .before .before .before .before .before .before .before .before .before .before .loop .at) (c .next-subgroup .result) (omega (arith, c .before .before .before .before .before .before .before .before .before .before .before .before .before .before .before .before .before .before .before .before .before .before .good .1 .1 .1 .1 .1 .0)) (c .before .before .before .before .before .before .before .before .before .before .before .before .if2 .taken) (c .before .before .before .before .before .before .before .before .before .before .before .before .before .before .loop .inv .1 .1 (c .before .before .before .before .before .before .before .before .before .before .before .before .if2 .taken)) (c .next-subgroup .ensures)
 
 same-for-common-parents-by-name-loop-again :
     (t : ℕ) → same-for-common-parents-by-name-lts.Need-loop-again (
@@ -345,7 +345,7 @@ same-for-common-parents-by-name-loop-again t c =
     let step : Stepped (a .image .now) (a .arena) (a .work) (at-loop .s) (c .before .before .before .before .if3 .s) (at-loop .next) (c .before .before .before .before .before .before .before .before .before .before .subgroup-part .result) false (a .level - 1) (c .before .before .before .before .if3 .next) =
     ⊎-elim (λ h. stepped-as (h .5) (h .6) (stepped-deeper long met (h .0 .taken) (h .2 .ensures))) (λ h. stepped-as (h .1) (h .2) (stepped-flat long met (a .level - 1) (h .0 .left))) (c .before .before .before .before .if3 .came) in
     let turned = parent-turn (at-loop .at) (at-loop .inv .0) (at-loop .inv .1 .0) (c .before .before .before .before .before .before .before .before .before .before .before .before .if2 .taken) (c .before .before .before .before .before .before .before .before .before .before .subgroup-part .ensures) step in
-    (parent-found (at-loop .at) turned (c .before .before .if4 .left) (c .next-subgroup .ensures), (step .ample (c .before .before .if4 .left), ahead-next _ _ _ (a .list) (at-loop .at) (c .next-subgroup .ensures) .below))
+    (parent-found (at-loop .at) turned (c .before .before .if4 .left) (c .next-subgroup .ensures), (step .ample (c .before .before .if4 .left), c .next-subgroup .ensures .below))
 
 same-for-common-parents-by-name-same-length-2 :
     (t : ℕ) → same-for-common-parents-by-name-lts.Need-same-length-2 (

@@ -6,7 +6,7 @@ use mathlib.Core.Bool.{true}
 use Prim.Native.Nat.{_+_, _-_}
 use Rattle.selection.specs.Refining.{document, Ample}
 use Rattle.selection.proofs.LoopLaws.{Stepped, PassLoop, stepped-flat, stepped-deeper, stepped-as, no-level, loop-stop}
-use Rattle.selection.proofs.ShapeLaws.{AlongGroups, shape-first, shape-turn, shape-found, shape-end, group-ahead, group-first}
+use Rattle.selection.proofs.ShapeLaws.{AlongGroups, shape-first, shape-turn, shape-found, shape-end, group-ahead}
 use native.Mathlib.Omega.{arith}
 use Prim.Native.Nat.{ℕ, _<_}
 use borrow.Fn.Kinds.{In}
@@ -126,7 +126,7 @@ same-response-shape-by-name-meet-part-requires :
     same-response-shape-by-name.Post
     same-response-shape-by-name-Inv-loop
     same-response-shape-by-name-μ-loop
-same-response-shape-by-name-meet-part-requires t c κs = (c .before .before .before .before .loop .inv .1, group-first _ _ _ (c .before .before .before .before .before .before .before .before .before .before .args .list) (c .before .before .before .before .loop .place) (c .before .group-part .ensures) (omega (arith, c .before .before .before .loop-test .taken)))
+same-response-shape-by-name-meet-part-requires t c κs = c .before .before .before .before .loop .inv .1
 
 same-response-shape-by-name-sub-same-response-shape-by-name :
     (t : ℕ) → same-response-shape-by-name-lts.Need-sub-same-response-shape-by-name (
@@ -257,7 +257,7 @@ same-response-shape-by-name-loop-less : (t : ℕ) → same-response-shape-by-nam
     same-response-shape-by-name.Post
     same-response-shape-by-name-Inv-loop
     same-response-shape-by-name-μ-loop
-same-response-shape-by-name-loop-less t c = omega (arith, group-ahead _ _ _ (c .before .before .before .before .before .before .before .before .before .before .before .before .before .before .before .before .before .before .before .args .list) (c .before .before .before .before .before .before .before .before .before .before .before .before .before .loop .place + 1) (c .find-group2 .ensures), c .before .before .before .before .before .before .before .before .before .before .before .before .loop-test .taken)
+same-response-shape-by-name-loop-less t c = omega (arith, group-ahead (c .before .before .before .before .if2 .s) (c .before .before .before .before .before .before .before .before .before .before .before .before .before .before .before .before .before .before .before .args .arena) (c .before .before .before .before .before .before .before .before .before .before .before .before .before .loop .place + 1) (c .before .before .before .before .before .before .before .before .before .before .before .before .before .before .before .before .before .before .before .args .list .end) (c .find-group2 .ensures), c .before .before .before .before .before .before .before .before .before .before .before .before .loop-test .taken)
 
 same-response-shape-by-name-loop-again : (t : ℕ) → same-response-shape-by-name-lts.Need-loop-again (
   find-group-reads.Asked,
