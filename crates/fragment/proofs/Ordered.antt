@@ -14,7 +14,7 @@ use lib.Dec.{eqb, ltb}
 use lib.ListN.{length, getD}
 use Rattle.lists.specs.Part.{Outside}
 use Rattle.lists.proofs.Parts.{outside-trans}
-use Rattle.lists.proofs.Tests.{first-of, second-of}
+use Rattle.lists.proofs.Tests.{both, first-of, second-of, first-fails, second-fails}
 use Rattle.tables.specs.Layout.{NONE, sets}
 use Rattle.tables.specs.Image.{countAt, rowIn}
 use Rattle.tables.specs.Columns.{setSelections, selectionAt, setBelow, fragmentSet}
@@ -25,7 +25,7 @@ use Rattle.fragment.specs.declared.heights.Height.{Height}
 use Rattle.fragment.specs.Chains.{below, Link, Sound}
 use Rattle.fragment.specs.Heights.{mostChain}
 use Rattle.fragment.specs.Rounds.{heightAt, setHeight, measured, SoundHeights}
-use Rattle.fragment.specs.Order.{placeOf, setOf, leadsLower, allLower, isInTurn, inTurn}
+use Rattle.fragment.specs.Order.{placeOf, setOf, leadsLower, allLower, isInTurn, allInTurn, inTurn}
 use Rattle.fragment.specs.Walks.{InOrder}
 use Rattle.fragment.proofs.HeightLaws.{all-three}
 use Rattle.fragment.proofs.Links.{fragment-set-in}
@@ -44,6 +44,19 @@ module _ (image w s : List ℕ) (kept : Outside 0 (3 * countAt image sets) w s) 
   pub set-kept : (place : ℕ) → place ≤ countAt image sets → setOf image s place ≡ setOf image w place
   unfolding setOf
   set-kept place h = kept .above _ (omega arith)
+
+  turn-kept : (place t : ℕ) → isInTurn image s place t ≡ isInTurn image w place t
+  unfolding isInTurn leadsLower allLower
+  turn-kept place t = rw (place-kept t, lower-kept (setSelections image t .count))
+    where
+      lower-kept : (n : ℕ) → allLower image s place t n ≡ allLower image w place t n
+      lower-kept zero = refl
+      lower-kept (suc n) = rw (lower-kept n, place-kept (below image (rowIn (setSelections image t) n)))
+
+  pub turns-kept : (n : ℕ) → n ≤ countAt image sets → allInTurn image s n ≡ allInTurn image w n
+  unfolding allInTurn
+  turns-kept zero h = refl
+  turns-kept (suc n) h = rw (turns-kept n (omega arith), set-kept (suc n) h, turn-kept (suc n) (setOf image w (suc n)))
 
 -- ---- a law for each way out of the code
 
@@ -147,6 +160,28 @@ height-cong {image} good g h t known same =
     (highest-cong good (by-links image) (λ u. g u .links) (λ u. h u .links) t _ known (le-refl _) (λ r u l. ap (λ (x : Height). x .links) (same r u l)))
     (highest-cong good (by-nested image) (λ u. g u .nested) (λ u. h u .nested) t _ known (le-refl _) (λ r u l. ap (λ (x : Height). x .nested) (same r u l)))
 
+-- all turns go well, or one does not
+module _ (image w : List ℕ) where
+  pub no-turn : allInTurn image w 0 ≡ true
+  unfolding allInTurn
+  no-turn = refl
+
+  pub last-turn : {k : ℕ} → k ≡ countAt image sets → allInTurn image w k ≡ true → allInTurn image w (countAt image sets) ≡ true
+  last-turn e before = rw (← e) before
+
+  turn-more : (k : ℕ) → allInTurn image w k ≡ true → isInTurn image w (suc k) (setOf image w (suc k)) ≡ true → allInTurn image w (suc k) ≡ true
+  unfolding allInTurn
+  turn-more k before this = both before this
+
+  one-fails : (k n : ℕ) → k < n → isInTurn image w (suc k) (setOf image w (suc k)) ≡ false → allInTurn image w n ≡ false
+  unfolding allInTurn
+  one-fails k zero l e = absurd (omega arith)
+  one-fails k (suc n) l e =
+      elim (ℕ-discrete k n) [
+        | yes p ↦ second-fails (allInTurn image w n) (rw (← p) e)
+        | no q ↦ first-fails (isInTurn image w (suc n) (setOf image w (suc n))) (one-fails k n (omega arith) e)
+      ]
+
 -- ---- turn by turn
 
 -- the first n turns went well; w are the words that they began with
@@ -217,6 +252,21 @@ module _ (image : List ℕ) {w s s′ : List ℕ} {k n : ℕ} (t : ℕ) (size : 
       go : (b : Bool) → isInTurn image s (k + 1) t ≡ b → Outside 0 (3 * countAt image sets) w s′
       go true turn = rw (e, turn-taken image s (k + 1) t turn) (outside-trans kept (measured-outside image s t _ (turn-known image s (k + 1) t turn)))
       go false turn = rw (e, turn-missed image s (k + 1) t turn) kept
+
+  -- whether this turn goes well, by the words at the beginning
+  turn-said : {b : Bool} → t ≡ getD s (5 * n - (k + 1)) 0 → b ≡ isInTurn image s (k + 1) t → isInTurn image w (suc k) (setOf image w (suc k)) ≡ b
+  turn-said read said =
+      let next : k + 1 ≡ suc k = omega arith in
+      let here : t ≡ setOf image w (k + 1) = set-read image s (k + 1) size read ∙ set-kept image w s kept (k + 1) (omega arith) in
+      rw (← next, ← here) (sym (turn-kept image w s kept (k + 1) t) ∙ sym said)
+
+  pub turn-passes : {b : Bool} → t ≡ getD s (5 * n - (k + 1)) 0 → b ≡ isInTurn image s (k + 1) t → b ≡ true → allInTurn image w k ≡ true → allInTurn image w (k + 1) ≡ true
+  turn-passes read said well before =
+      let next : k + 1 ≡ suc k = omega arith in
+      rw next (turn-more image w k before (turn-said read said ∙ well))
+
+  pub turn-fails : {b : Bool} → t ≡ getD s (5 * n - (k + 1)) 0 → b ≡ isInTurn image s (k + 1) t → b ≡ false → allInTurn image w (countAt image sets) ≡ false
+  turn-fails read said ill = one-fails image w k (countAt image sets) (omega arith) (turn-said read said ∙ ill)
 
   pub turn-again : {b : Bool} → t ≡ getD s (5 * n - (k + 1)) 0 → b ≡ isInTurn image s (k + 1) t → b ≡ true
       → (Good image → 5 * countAt image sets ≤ length w → SoundHeights image w → Turned image w s k)

@@ -32,6 +32,11 @@ module _ (image s : List ℕ) where
   unfoldable pub isInTurn : (place t : ℕ) → Bool
   isInTurn place t = ltb t (countAt image sets) && eqb (placeOf t) place && allLower place t (setSelections image t .count)
 
+  -- the sets of the first n places are all in their turns
+  unfoldable pub allInTurn : ℕ → Bool
+  allInTurn zero = true
+  allInTurn (suc n) = allInTurn n && isInTurn (suc n) (setOf (suc n))
+
   -- a set in its turn is measured
   unfoldable pub inTurn : (place t : ℕ) → List ℕ
   inTurn place t = cond (isInTurn place t) (measured image s t) s

@@ -28,7 +28,7 @@ ghost use Rattle.tables.specs.Good.{Good};
 ghost use Rattle.fragment.specs.Chains.{oneIf, isNesting};
 ghost use Rattle.fragment.specs.Heights.{cutOff};
 ghost use Rattle.fragment.specs.Rounds.{heightAt, withHeight, sameHeight, heightBelow, rowHeight, setHeight, measured, changes, sweep, sweepChanges, Measured};
-ghost use Rattle.fragment.specs.Order.{placeOf, leadsLower, allLower, isInTurn, inTurn};
+ghost use Rattle.fragment.specs.Order.{placeOf, leadsLower, allLower, isInTurn, allInTurn, inTurn};
 ghost use Rattle.fragment.specs.Walks.{InOrder};
 
 pub const MOST_CHAIN: u32 = 100;
@@ -250,7 +250,7 @@ fn measure_in_turn(image: &[u32], s: &mut [u32], place: u32, set: u32) -> bool
 
 // All sets, each in its turn. Whether that went well: then all is settled, and no fragment reaches itself.
 pub fn measure_in_order(image: &[u32], s: &mut [u32]) -> bool
-    ensures { λ r. ⌜ Outside 0 (3 * countAt (now (image .entry)) sets) (now (s .entry)) (now (s .exit)) × (r ≡ true → Good (now (image .entry)) → 5 * countAt (now (image .entry)) sets ≤ length (now (s .entry)) → InOrder (now (image .entry)) (now (s .exit))) ⌝ }
+    ensures { λ r. ⌜ Outside 0 (3 * countAt (now (image .entry)) sets) (now (s .entry)) (now (s .exit)) × (r ≡ allInTurn (now (image .entry)) (now (s .entry)) (countAt (now (image .entry)) sets)) × (r ≡ true → Good (now (image .entry)) → 5 * countAt (now (image .entry)) sets ≤ length (now (s .entry)) → InOrder (now (image .entry)) (now (s .exit))) ⌝ }
 {
     let known = count(image, SETS);
     clear(s, 0, 3 * (known as usize));

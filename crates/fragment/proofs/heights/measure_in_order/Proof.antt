@@ -2,8 +2,9 @@
 -- Assumes nothing.
 use denote.Ref.{now}
 use Prim.Native.Nat.{_*_, _-_, _≤_}
+use native.Mathlib.Nat.{le-refl}
 use native.Mathlib.Omega.{arith}
-use mathlib.Core.Path.{_≡_, refl, subst, _∙_}
+use mathlib.Core.Path.{_≡_, refl, sym, subst, _∙_}
 use mathlib.Core.Bool.{true, false≢true}
 use borrow.Author.Needs.{needs}
 use lib.ListN.{length}
@@ -13,20 +14,21 @@ use Rattle.tables.specs.Image.{countAt}
 use Rattle.tables.specs.Layout.{sets}
 use Rattle.tables.specs.Good.{Good}
 use Rattle.fragment.specs.Rounds.{SoundHeights}
+use Rattle.fragment.specs.Order.{allInTurn}
 use Rattle.fragment.proofs.Cleared.{cleared-outside, all-cleared}
 use Rattle.fragment.proofs.Exact.{cleared-sound}
-use Rattle.fragment.proofs.Ordered.{Turned, none-turned, turn-outside, turn-again, all-turned}
+use Rattle.fragment.proofs.Ordered.{Turned, none-turned, turn-outside, turn-again, all-turned, turns-kept, no-turn, last-turn, turn-passes, turn-fails}
 use Rattle.fragment.proofs.heights.measure_in_order.Statement.{statement}
 use Rattle.fragment.proofs.heights.measure_in_order.Tie as tie
 
 abbrev Inv-loop : tie.InvT-loop
-Inv-loop image s₀ known placed₀ s placed = (placed ≤ known) × Outside 0 (3 * countAt image sets) s₀ s × (Good image → 5 * countAt image sets ≤ length s₀ → SoundHeights image s₀ → Turned image s₀ s placed)
+Inv-loop image s₀ known placed₀ s placed = (placed ≤ known) × Outside 0 (3 * countAt image sets) s₀ s × (Good image → 5 * countAt image sets ≤ length s₀ → SoundHeights image s₀ → Turned image s₀ s placed) × (allInTurn image s₀ placed ≡ true)
 
 abbrev μ-loop : tie.MeasureT-loop
 μ-loop image s₀ known placed₀ s placed = known - placed
 
 loop-holds : tie.Need-loop-holds Inv-loop μ-loop
-loop-holds c = (omega arith, outside-none _ _ _, λ good room sound. none-turned _ _ sound)
+loop-holds c = (omega arith, outside-none _ _ _, λ good room sound. none-turned _ _ sound, no-turn _ _)
 
 add-place : tie.Need-add-place Inv-loop μ-loop
 add-place c = omega arith
@@ -39,7 +41,12 @@ loop-again c =
     let l = c .before .before .before .before .before .before .before .before .loop in
     let n = c .before .before .before .before .before .before .before .before .before .before .before .before .before .count .ensures in
     let turn = c .before .before .before .measure-in-turn .ensures in
-    (omega arith, turn-outside _ _ n (omega arith) (l .inv .1) (turn .0), turn-again _ _ n (omega arith) (l .inv .1) (turn .0) (c .before .before .before .before .before .get .ensures) (turn .1) (c .if1 .taken) (l .inv .2))
+    let read = c .before .before .before .before .before .get .ensures in (
+      omega arith,
+      turn-outside _ _ n (omega arith) (l .inv .1) (turn .0),
+      turn-again _ _ n (omega arith) (l .inv .1) (turn .0) read (turn .1) (c .if1 .taken) (l .inv .2),
+      turn-passes _ _ n (omega arith) (l .inv .1) (turn .0) read (turn .1) (c .if1 .taken) (l .inv .3),
+    )
 
 same-length : tie.Need-same-length Inv-loop μ-loop
 same-length c = c .before .before .before .measure-in-turn .kept .1 .0 ∙ c .before .before .before .before .before .before .before .before .loop .inv .1 .long ∙ cleared-outside (now (c .before .before .before .before .before .before .before .before .before .before .before .before .before .before .before .before .args .s)) _ (c .before .before .before .before .before .before .before .before .before .before .before .clear .ensures) refl .long
@@ -51,7 +58,12 @@ returns c =
     let a = c .before .before .before .before .before .before .before .before .before .before .before .before .before .before .before .before .args in
     let size : 3 * c .before .before .before .before .before .before .before .before .before .before .before .before .before .count .result ≡ 3 * countAt (now (a .image)) sets = omega arith in
     let turn = c .before .before .before .measure-in-turn .ensures in
-    (outside-trans (cleared-outside (now (a .s)) _ (c .before .before .before .before .before .before .before .before .before .before .before .clear .ensures) size) (turn-outside _ _ n (omega arith) (l .inv .1) (turn .0)), λ e. absurd (false≢true e))
+    let read = c .before .before .before .before .before .get .ensures in
+    let before = cleared-outside (now (a .s)) _ (c .before .before .before .before .before .before .before .before .before .before .before .clear .ensures) size in (
+      outside-trans before (turn-outside _ _ n (omega arith) (l .inv .1) (turn .0)),
+      sym (turn-fails _ _ n (omega arith) (l .inv .1) (turn .0) read (turn .1) (c .if1 .left)) ∙ turns-kept _ _ _ before _ (le-refl _),
+      λ e. absurd (false≢true e),
+    )
 
 same-length-2 : tie.Need-same-length-2 Inv-loop μ-loop
 same-length-2 c = c .before .loop .inv .1 .long ∙ cleared-outside (now (c .before .before .before .before .before .before .before .before .before .args .s)) _ (c .before .before .before .before .clear .ensures) refl .long
@@ -66,6 +78,7 @@ returns-2 c =
     let before = cleared-outside (now (a .s)) _ cleared size in
     let last : l .placed ≡ countAt (now (a .image)) sets = omega arith in (
       outside-trans before (l .inv .1),
+      sym (last-turn _ _ last (l .inv .3)) ∙ turns-kept _ _ _ before _ (le-refl _),
       λ e good room.
           let sound = cleared-sound _ _ (all-cleared (now (a .s)) _ cleared size (omega arith)) in
           all-turned good (subst (Turned (now (a .image)) _ (l .s)) last (l .inv .2 good (omega (arith, before .long)) sound)),

@@ -14,7 +14,7 @@ returns c =
     let v = c .before .before .validate-measured .ensures in (
       outside-trans (behind-within _ o) (outside-trans (heights-within _ (m .0)) (behind-within _ (v .0))),
       λ good room.
-          let ordered = m .1 (c .before .before .before .before .if1 .taken) good (omega (arith, o .long)) in
+          let ordered = m .2 (c .before .before .before .before .if1 .taken) good (omega (arith, o .long)) in
           v .1 (record { good = good; room = omega (arith, m .0 .long, o .long); heights = ordered .heights }) (none-cyclic _ (ordered .no-cycle)),
     )
 
