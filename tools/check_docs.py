@@ -1,12 +1,13 @@
 #!/usr/bin/env python3
 """The documents name what there is: each `crates/..`, `tools/..` or `docs/..` path that README.md or docs/*.md writes between
-backquotes exists, each must-fail edit is named in docs/STATEMENTS.md, and each edit named there is a file."""
+backquotes exists, each must-fail edit, those of the gate and those of the folder edits, is named in docs/STATEMENTS.md, and each edit named there
+is a file."""
 import pathlib
 import re
 import sys
 
 ROOT = pathlib.Path(__file__).resolve().parent.parent
-PATH = re.compile(r"`((?:crates|tools|docs|hosts|examples|compare)/[\w./*-]+|\.ci/run|NOTICE|crates\.txt)`")
+PATH = re.compile(r"`((?:crates|tools|docs|hosts|examples|compare|edits)/[\w./*-]+|\.ci/run|NOTICE|crates\.txt)`")
 EDIT = re.compile(r"`([a-z_0-9]+\.edit)`")
 
 
@@ -17,7 +18,7 @@ def main():
         for name in PATH.findall(page.read_text()):
             if not list(ROOT.glob(name.rstrip("/"))):
                 wrong.append(f"{page.name}: no {name}")
-    there = {p.name for p in ROOT.glob("crates/*/must-fail/*.edit")}
+    there = {p.name for folder in ("crates/*/must-fail", "edits/*") for p in ROOT.glob(folder + "/*.edit")}
     named = set(EDIT.findall((ROOT / "docs/STATEMENTS.md").read_text()))
     wrong += [f"STATEMENTS.md does not name {e}" for e in sorted(there - named)]
     wrong += [f"STATEMENTS.md names {e}, which is not there" for e in sorted(named - there)]
