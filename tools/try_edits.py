@@ -21,6 +21,7 @@ ROOT = pathlib.Path(__file__).resolve().parent.parent
 COPY = ROOT / "target/edits"
 ERROR = re.compile(r"^(?:note: )?(\S+):(\d+):\d+: (error.*|it is not proved.*)", re.M)
 NO_FACT = re.compile(r"is not in scope|exports no such name|has no `|has no field|not admitted")
+NAME = re.compile(r"`([^`]+)`")
 FUNCTION = re.compile(r"^fn (\S+): no[t ]", re.M)
 
 
@@ -65,9 +66,9 @@ def what_is_wrong(status, out, files):
     facts = [e for e in errors if not NO_FACT.search(e[2])]
     if not facts:
         return "NO FACT", " ".join(errors[0])[:400] if errors else out[:400]
-    path, line, _ = facts[0]
-    function = FUNCTION.search(out)
-    return None, "%s:%s%s" % (path.split("/crates/")[-1], line, ", in " + function[1] if function else "")
+    path, line, says = facts[0]
+    part, function = NAME.search(says), FUNCTION.search(out)
+    return None, "%s:%s %s%s" % (path.split("/crates/")[-1], line, part[1] if part else "", ", in " + function[1] if function else "")
 
 
 def try_edit(crate, edit):
