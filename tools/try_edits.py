@@ -3,11 +3,10 @@
 
     tools/try_edits.py [CRATE..] [--edit NAME]     all crates that have edits, or those named; all their edits, or those of that name
 
-They are tried in a copy of the repository, target/edits, whose own target stays from one run to the next. There each crate below is proved by
-`rt check`, the crate itself by `rt dev`, and then again with each edit: `rt dev` looks at what an edit changed and at no more, so that a try takes
-seconds. It is no verdict that something is proved; a refusal is one. Refused at a fact means that the text was read and only a proof or
-a computed test does not hold with it: no error in the edited text, and no name or field that a proof no longer finds.
-A line for each edit says where it was refused. Exit 0 if each was refused at a fact.
+They are tried in a copy of the repository, target/edits, whose own target stays from one run to the next. `rt dev` proves the crates below, then
+the crate, which must be proved as it stands, before all edits and after; with an edit it looks at what that changes and at no more, so that a try
+takes seconds. It is no verdict that something is proved; a refusal is one. Refused at a fact means: no error in the edited text itself, and one
+that is not of a name or field that is no longer there, nor of what follows from another error. A line for each edit says where that is.
 """
 import argparse
 import pathlib
@@ -36,6 +35,14 @@ def copy_repository():
 def rt(*words):
     run = subprocess.run(["rt", *words], cwd=COPY, stdout=subprocess.PIPE, stderr=subprocess.STDOUT, text=True)
     return run.returncode, run.stdout
+
+
+def prove(crate):
+    began = time.time()
+    status, out = rt("dev", crate)
+    if status:
+        sys.exit(f"{crate} is not proved as it stands:\n{out[:2000]}")
+    print("%s: proved as it stands (%d s)" % (crate, time.time() - began), flush=True)
 
 
 def edited(crate, edit):
@@ -92,16 +99,13 @@ def main(args):
         edits = [e for e in edits if args.edit in (None, e.stem)]
         if not edits or args.crates and crate not in args.crates:
             continue
-        began = time.time()
-        status, out = rt("dev", crate)
-        if status:
-            sys.exit(f"{crate} is not proved as it stands:\n{out[:2000]}")
-        print("%s: proved as it stands (%d s)" % (crate, time.time() - began), flush=True)
+        prove(crate)
         for edit in edits:
             began = time.time()
             wrong, where = try_edit(crate, edit)
             tried, failed = tried + 1, failed + bool(wrong)
             print("%s/%s: %s %s (%d s)" % (crate, edit.stem, wrong or "refused at", where, time.time() - began), flush=True)
+        prove(crate)
     print(f"{tried} edits, {failed} not refused at a fact")
     return 1 if failed else 0
 
