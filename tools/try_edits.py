@@ -75,7 +75,7 @@ def what_is_wrong(status, out, files):
         return "NO FACT", " ".join(errors[0])[:400] if errors else out[:400]
     path, line, says = facts[0]
     part, function = NAME.search(says), FUNCTION.search(out)
-    return None, "%s:%s %s%s" % (path.split("/crates/")[-1], line, part[1] if part else "", ", in " + function[1] if function else "")
+    return None, "%s:%s %s%s" % (path.split("/crates/")[-1], line, part[1] if part else "", " of " + function[1] if function and "/src/" in path else "")
 
 
 def try_edit(crate, edit):
