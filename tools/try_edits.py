@@ -21,7 +21,6 @@ COPY = ROOT / "target/edits"
 ERROR = re.compile(r"^(?:note: )?(\S+):(\d+):\d+: (error.*|it is not proved.*)", re.M)
 NO_FACT = re.compile(r"is not in scope|exports no such name|has no `|has no field|not admitted")
 NAME = re.compile(r"`([^`]+)`")
-FUNCTION = re.compile(r"^fn (\S+): no[t ]", re.M)
 
 
 def copy_repository():
@@ -32,22 +31,22 @@ def copy_repository():
     shutil.copytree(ROOT, COPY, ignore=shutil.ignore_patterns("target", ".git"), dirs_exist_ok=True)
 
 
-def rt(*words):
-    run = subprocess.run(["rt", *words], cwd=COPY, stdout=subprocess.PIPE, stderr=subprocess.STDOUT, text=True)
+def dev(crate):
+    run = subprocess.run(["rt", "dev", crate], cwd=COPY, stdout=subprocess.PIPE, stderr=subprocess.STDOUT, text=True)
     return run.returncode, run.stdout
 
 
 def prove(crate):
     began = time.time()
-    status, out = rt("dev", crate)
+    status, out = dev(crate)
     if status:
         sys.exit(f"{crate} is not proved as it stands:\n{out[:2000]}")
     print("%s: proved as it stands (%d s)" % (crate, time.time() - began), flush=True)
 
 
 def edited(crate, edit):
-    """The files of a crate that an edit changes, as they were and as they become; a text to replace must stand there once."""
-    were, are, file, old = {}, {}, None, None
+    """The files of a crate that an edit changes, as they were and as they become. A text to replace must stand there once."""
+    were, are = {}, {}
     for line in edit.read_text().splitlines():
         if line.startswith("file: "):
             file = COPY / "crates" / crate / line[6:]
@@ -55,48 +54,41 @@ def edited(crate, edit):
             are.setdefault(file, were[file])
         elif line.startswith("old: "):
             old = line[5:]
-            if are[file].count(old) != 1:
-                return {}, {}
         elif line.startswith("new:"):
+            if are[file].count(old) != 1:
+                sys.exit(f"{crate}/{edit.stem}: a text that it replaces does not stand there once")
             are[file] = are[file].replace(old, line[4:].removeprefix(" "))
     return were, are
 
 
-def what_is_wrong(status, out, files):
-    """Of a try: None if it was refused at a fact, else what happened instead; and where, at which function."""
-    if status == 0:
-        return "NOT REFUSED", ""
-    errors = ERROR.findall(out)
-    unread = [e for e in errors if e[2].startswith("error[") or e[2].startswith("error") and pathlib.Path(e[0]) in files]
-    if unread or "\nlogic=not-proved" not in out:
-        return "NOT READ", " ".join(unread[0])[:400] if unread else out[:400]
-    facts = [e for e in errors if not NO_FACT.search(e[2])]
-    if not facts:
-        return "NO FACT", " ".join(errors[0])[:400] if errors else out[:400]
-    path, line, says = facts[0]
-    part, function = NAME.search(says), FUNCTION.search(out)
-    return None, "%s:%s %s%s" % (path.split("/crates/")[-1], line, part[1] if part else "", " of " + function[1] if function and "/src/" in path else "")
-
-
 def try_edit(crate, edit):
+    """None if it is refused at a fact, else what happens instead; and where."""
     were, are = edited(crate, edit)
-    if were == are:
-        return "NO EDIT: a text that it replaces does not stand there once", ""
     try:
         for file, text in are.items():
             file.write_text(text)
-        return what_is_wrong(*rt("dev", crate), were)
+        status, out = dev(crate)
     finally:
         for file, text in were.items():
             file.write_text(text)
+    if status == 0:
+        return "NOT REFUSED", ""
+    errors = ERROR.findall(out)
+    if "\nlogic=not-proved" not in out or any(says.startswith("error") and pathlib.Path(path) in were for path, _, says in errors):
+        return "NOT READ:", out[:400]
+    facts = [error for error in errors if not NO_FACT.search(error[2])]
+    if not facts:
+        return "NO FACT:", out[:400]
+    path, line, says = facts[0]
+    return None, "%s:%s, %s" % (path.split("/crates/")[-1], line, " ".join(NAME.findall(says)[:1]))
 
 
 def main(args):
     copy_repository()
     tried = failed = 0
     for crate in [line.split(":")[0] for line in (ROOT / "crates.txt").read_text().splitlines() if line[0] != "#"]:
-        edits = sorted([*COPY.glob(f"crates/{crate}/must-fail/*.edit"), *COPY.glob(f"edits/{crate}/*.edit")], key=lambda p: p.name)
-        edits = [e for e in edits if args.edit in (None, e.stem)]
+        edits = [*COPY.glob(f"crates/{crate}/must-fail/*.edit"), *COPY.glob(f"edits/{crate}/*.edit")]
+        edits = [e for e in sorted(edits, key=lambda p: p.name) if args.edit in (None, e.stem)]
         if not edits or args.crates and crate not in args.crates:
             continue
         prove(crate)
