@@ -27,8 +27,7 @@ use Rattle.fragment.specs.declared.rules.Fragments.{Fragments}
 use Rattle.fragment.specs.declared.rules.Fragments.the-variants as fragments
 use Rattle.selection.specs.declared.arena.Reply.{Reply}
 use Rattle.selection.specs.Regions.{arenaOf}
-use Rattle.selection.proofs.StepLaws.{places, links-fit}
-use Rattle.selection.proofs.StandLaws.{in-front}
+use Rattle.selection.proofs.StepLaws.{store-is}
 use Rattle.query.specs.Needed.{mostWork, scratchNeeded}
 use Rattle.query.specs.Reply.{answer, ofImage, ofFragments, orElse, refused, faulty, operationsFrom, reply, scratchAfter}
 use Rattle.query.specs.Refusing.{refusedShows}
@@ -52,8 +51,8 @@ module _ {image : List ℕ} {work : ℕ} where
     pub covers-operations : usesWords image + (arenaOf image work .store + work + 1 + countAt image selections) ≤ length s
     unfolding scratchNeeded
     covers-operations =
-        let at = places {image = image} {arena = arenaOf image work} work (fits .good) refl in
-        omega (arith, fits .room, nine-counts image, in-front at, at .queue, at .lasts, at .links, links-fit {image = image} {arena = arenaOf image work} work (fits .good) refl (fits .limit))
+        let store = store-is {image = image} {arena = arenaOf image work} work (fits .good) refl (fits .limit) in
+        omega (arith, fits .room, nine-counts image, store)
 
     module _ {s′ : List ℕ} (f : Fragments) (same : s′ ≡ fragment.cleared s (fragment.fragmentsWords image))
         (shows : Good image → fragment.fragmentsWords image ≤ length s → fragment.fragmentsShow f ≡ fragment.fragmentsFault image) where

@@ -101,7 +101,7 @@ module _ {image : List ℕ} {work : ℕ} where
       let prepares′ = rw (behind s front) at prepares in
       let r = places {image = image} {arena = arenaOf image work} work (ready .good) refl in
       let fit = links-fit {image = image} {arena = arenaOf image work} work (ready .good) refl (ready .limit) in
-      let written = prepares′ .prepared (ready .good) (omega (arith, ready .room, length-drop front s, in-front r, r .queue, r .lasts, r .links, fit)) in
+      let written = prepares′ .prepared (ready .good) (omega (arith, ready .room, length-drop front s, in-front r, r .queue, r .lasts, r .heads, r .links, fit)) in
       rw (behind-back s front ys) record {
         ready = ready-as-long (long-again s front fits ys (prepares′ .long)) ready;
         prepared = rw (← e) (prepared-kept (λ k h. getD-drop front (take front s ++ ys) k 0 ∙ there-again s front fits ys k) written);

@@ -28,16 +28,16 @@ no-clash : (o : Option Cause) → kindOfClash o ≡ 0 → o ≡ none
 no-clash none e = refl
 no-clash (some c) e = absurd (some-kind c e)
 
-settled : (s : List ℕ) (store : ℕ) (z : states.Walk) (kind a b : ℕ) (o : Option Cause) (next : Step) → kind ≡ kindOfClash o → (kind ≡ 0 → ⊥)
-    → (ls : List (List ℕ)) (used : ℕ) → Holds s store (z .reply .operation) z ls used → Tells s store (z .reply .operation) (conflicted kind a b z) (settle o a b next ls used)
+settled : (s : List ℕ) (arena : Arena) (z : states.Walk) (kind a b : ℕ) (o : Option Cause) (next : Step) → kind ≡ kindOfClash o → (kind ≡ 0 → ⊥)
+    → (ls : List (List ℕ)) (used : ℕ) → Holds s arena (z .reply .operation) z ls used → Tells s arena (z .reply .operation) (conflicted kind a b z) (settle o a b next ls used)
 unfolding settle
-settled s store z kind a b none next k stop ls used h = absurd (stop k)
-settled s store z kind a b (some c) next k stop ls used h = rw (k, ap (λ r. r .used) (h .reply))
+settled s arena z kind a b none next k stop ls used h = absurd (stop k)
+settled s arena z kind a b (some c) next k stop ls used h = rw (k, ap (λ r. r .used) (h .reply))
 
-nothing-left : (s : List ℕ) (store : ℕ) (z : states.Walk) (clash : ℕ → ℕ → Option Cause) (a : ℕ) (ls : List (List ℕ)) (used : ℕ) → Holds s store (z .reply .operation) z ls used
-    → Tells s store (z .reply .operation) z (against clash a [] ls used)
+nothing-left : (s : List ℕ) (arena : Arena) (z : states.Walk) (clash : ℕ → ℕ → Option Cause) (a : ℕ) (ls : List (List ℕ)) (used : ℕ) → Holds s arena (z .reply .operation) z ls used
+    → Tells s arena (z .reply .operation) z (against clash a [] ls used)
 unfolding against
-nothing-left s store z clash a ls used h = h
+nothing-left s arena z clash a ls used h = h
 
 -- the fields from `from` on have been compared up to a place: those from `at` on are left, and the next of them stands there
 pub record Upto (image s : List ℕ) (arena : Arena) (g : Segment) (isShape : Bool) (a from place : ℕ) (x : places.List) (l : List ℕ) : Type 0 where
@@ -93,7 +93,7 @@ module _ {image s : List ℕ} {arena : Arena} {g : Segment} {isShape : Bool} {a 
       same = λ e. absurd (stop e);
       known = refl;
       operation = refl;
-      tells = λ l G F low begins ls used h. rw (turn x l is G F low begins ls used) (settled s (arena .store) z kind a b (passOf image isShape .clash a b) _ k stop ls used h);
+      tells = λ l G F low begins ls used h. rw (turn x l is G F low begins ls used) (settled s arena z kind a b (passOf image isShape .clash a b) _ k stop ls used h);
     }
 
   pub comparing-done : {place : ℕ} → Comparing image s arena g isShape a from end place → end ≤ place → (z : states.Walk) (x : places.List) → x .end ≡ end → ComparesSegment image s arena z x g isShape a from z
@@ -101,7 +101,7 @@ module _ {image s : List ℕ} {arena : Arena} {g : Segment} {isShape : Bool} {a 
     same = λ _. refl;
     known = refl;
     operation = refl;
-    tells = λ l G F low begins ls used h. let u = c .upto x l is G F low begins in rw (u .same ls used, u .found .over (omega arith)) (nothing-left s (arena .store) z (passOf image isShape .clash) a ls used h);
+    tells = λ l G F low begins ls used h. let u = c .upto x l is G F low begins in rw (u .same ls used, u .found .over (omega arith)) (nothing-left s arena z (passOf image isShape .clash) a ls used h);
   }
 
 -- ---- a part: the front segment behind its first field, then the back segment
@@ -143,8 +143,8 @@ module _ {image s : List ℕ} {arena : Arena} {z z₁ : states.Walk} {part : Par
     low-second : part .list .start ≤ second
     low-second = omega (arith, p .from, found-second .ahead)
 
-    front-tells : (ls : List (List ℕ)) (used : ℕ) → Holds s (arena .store) (z .reply .operation) z ls used
-        → Tells s (arena .store) (z .reply .operation) z₁ (against (passOf image isShape .clash) a (filter (member (document image) (part .front)) (onward (part .list) l (part .first + 1))) ls used)
+    front-tells : (ls : List (List ℕ)) (used : ℕ) → Holds s arena (z .reply .operation) z ls used
+        → Tells s arena (z .reply .operation) z₁ (against (passOf image isShape .clash) a (filter (member (document image) (part .front)) (onward (part .list) l (part .first + 1))) ls used)
     front-tells ls used h = rw (found-second .same) (front .tells l G front-follows low-second (found-second .passes) ls used h)
 
   -- the two segments in order, from the first field on
@@ -164,7 +164,7 @@ module _ {image s : List ℕ} {arena : Arena} {z z₁ : states.Walk} {part : Par
     known = front .known;
     operation = front .operation;
     tells = λ l rows G t p ls used h.
-        rw (in-order l rows G p ls used) (tells-stop s (arena .store) (z .reply .operation) z₁ _ _ (front-tells l rows G t p ls used h) stop);
+        rw (in-order l rows G p ls used) (tells-stop s arena (z .reply .operation) z₁ _ _ (front-tells l rows G t p ls used h) stop);
   }
 
   pub part-compared : z₁ .reply .kind ≡ 0 → {z₂ : states.Walk} → ComparesSegment image s arena z₁ (part .list) (part .back) isShape a (part .next) z₂ → ComparesPart image s arena z part isShape z₂
@@ -177,6 +177,6 @@ module _ {image s : List ℕ} {arena : Arena} {z z₁ : states.Walk} {part : Par
         operation = back′ .operation;
         tells = λ l rows G t p ls used h.
             rw (in-order l rows G p ls used)
-            (tells-go s s (arena .store) (z .reply .operation) z z₂ _ _ (rw is at (front-tells l rows G t p ls used h)) (rw is at go)
+            (tells-go s s arena (z .reply .operation) z z₂ _ _ (rw is at (front-tells l rows G t p ls used h)) (rw is at go)
             (λ ls′ used′ h′. back′ .tells l G (back-follows l rows G t p) (p .behind) (p .starts) ls′ used′ h′));
       }

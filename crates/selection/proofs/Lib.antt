@@ -7,6 +7,7 @@
 --     ExpandedLaws  what a caller takes from the contracts of expanding
 --     StepLaws      a row done, by its kind, and rows in order
 --     ExpandWalk    the loop over the queue
+--     ClearLaws     words that are cleared
 --     KnownLaws     the store of known lists
 --     PlaceLaws     searches for a place of a list
 --     LinkLaws      links between the places of a list
@@ -35,6 +36,7 @@ pub mod ExpandedLaws
 pub mod QueueRows
 pub mod StepLaws
 pub mod ExpandWalk
+pub mod ClearLaws
 pub mod KnownLaws
 pub mod PlaceLaws
 pub mod LinkLaws

@@ -1,19 +1,19 @@
 -- Merged sets that are expanded and met: what that does, and that the merge theory's walk does the same. Assumes nothing.
 use mathlib.Core.Path.{_≡_, refl, sym, ap, _∙_}
+use mathlib.Core.Logic.{_⊎_, inl, inr}
 use mathlib.Core.Bool.{Bool, true, false, false≢true}
 use mathlib.Core.List.{List, [], _∷_, _++_}
 use Prim.Native.Nat.{ℕ, zero, suc, _+_, _*_, _≤_, _<_}
 use native.Mathlib.Omega.{arith}
 use lib.Dec.{leb}
-use lib.ListN.{length, getD, length-set}
-use lib.Seq.{getD-set-other}
+use lib.ListN.{length, getD}
 use borrow.Author.Tests.{leb-true}
 use Rattle.merge_theory.specs.Lists.{flatMap}
 use Rattle.merge_theory.specs.Expand.{expand, fieldsOf}
 use Rattle.merge_theory.specs.Walk.{Pass, walk}
 use Rattle.merge_theory.proofs.Theorems.{expand-queue}
 use Rattle.merge_theory.proofs.ExpandLaws.{expand-at}
-use Rattle.tables.specs.Layout.{selections}
+use Rattle.tables.specs.Layout.{fragments, selections}
 use Rattle.tables.specs.Image.{countAt}
 use Rattle.selection.specs.declared.arena.Arena.{Arena}
 use Rattle.selection.specs.declared.arena.Walk as states
@@ -21,14 +21,15 @@ use Rattle.selection.specs.declared.arena.List as places
 use Rattle.selection.specs.declared.expand.Expansion.{Expansion}
 use Rattle.selection.specs.declared.walk.Met.{Met}
 use Rattle.selection.specs.Expanding.{Expanded, Listed}
-use Rattle.selection.specs.KnownLists.{AtHand}
+use Rattle.selection.specs.KnownLists.{AtHand, sumAt, headAt}
 use Rattle.selection.specs.Regions.{Places}
 use Rattle.selection.specs.Standing.{LinkFrame, LinkableBoth, Stood}
 use Rattle.selection.specs.Places.{rowIn}
 use Rattle.selection.specs.Refining.{document, Holds, Tells, charged, lengthOf, MeetsList, Ample, Begun, Site, Rows, Kept, Refines, walkList, Entered, Meets, Queued, MeetsSets}
 use Rattle.selection.proofs.ParentsLaws.{few-rows}
-use Rattle.selection.proofs.StandLaws.{classed-kept, in-front, row-in}
+use Rattle.selection.proofs.StandLaws.{classed-kept, heads-low, in-front, row-in}
 use Rattle.selection.proofs.ExpandedLaws.{listed-expand, stores-same}
+use Rattle.selection.proofs.KnownLaws.{bucket-most, known-told, known-kept, keeps}
 use Rattle.selection.proofs.RefineLaws.{MetCase, again, refused, stored, met-case, met-done, met-entered}
 
 -- ---- whatever the image is
@@ -49,11 +50,11 @@ charges work cost z = go (leb (z .reply .used + cost) work) refl
     go true e = rw e (record { known = refl; expansions = refl; operation = refl; fits = λ _. leb-true _ _ e; units = λ _. refl })
     go false e = rw e (record { known = refl; expansions = refl; operation = refl; fits = λ k. absurd (omega arith); units = λ k. absurd (omega arith) })
 
-pub ample-met : {s s′ : List ℕ} {store work : ℕ} {z : states.Walk} {x : places.List} {r : Met} → MeetsList s s′ store work z x r → Ample work 1 z
+pub ample-met : {s s′ : List ℕ} {arena : Arena} {work : ℕ} {z : states.Walk} {x : places.List} {r : Met} → MeetsList s s′ arena work z x r → Ample work 1 z
     → x .start ≤ z .known + 1 → r .walk .reply .kind ≡ 0 → Ample work 0 (r .walk)
-ample-met {s} {s′} {store} {work} {z} {x} {r} m a low = go (met-case m)
+ample-met {s} {s′} {arena} {work} {z} {x} {r} m a low = go (met-case m)
   where
-    go : MetCase s s′ store work z x (m .old) r → r .walk .reply .kind ≡ 0 → Ample work 0 (r .walk)
+    go : MetCase s s′ arena work z x (m .old) r → r .walk .reply .kind ≡ 0 → Ample work 0 (r .walk)
     go (again old result words) = rw result (λ at-0.
         let paid = charges work 1 z in
         let fits = paid .fits at-0 in
@@ -81,9 +82,9 @@ ample-met {s} {s′} {store} {work} {z} {x} {r} m a low = go (met-case m)
         })
 
 -- what a list that is met leaves of the words and the state
-record After (s s′ : List ℕ) (store work : ℕ) (z : states.Walk) (x : places.List) (r : Met) : Type 0 where
+record After (s s′ : List ℕ) (arena : Arena) (work : ℕ) (z : states.Walk) (x : places.List) (r : Met) : Type 0 where
   pub long : length s′ ≡ length s
-  pub words : (k : ℕ) → (k ≡ store + z .known → ⊥) → getD s′ k 0 ≡ getD s k 0
+  pub words : (k : ℕ) → (k < arena .heads) ⊎ (arena .heads + arena .names < k) → (k ≡ arena .links + 4 * z .known → ⊥) → (k ≡ arena .store + z .known → ⊥) → getD s′ k 0 ≡ getD s k 0
   pub list : r .list ≡ x
   pub expansions : r .walk .expansions ≡ z .expansions
   pub operation : r .walk .reply .operation ≡ z .reply .operation
@@ -92,13 +93,18 @@ record After (s s′ : List ℕ) (store work : ℕ) (z : states.Walk) (x : place
   pub end : r .deeper ≡ true → r .walk .known ≡ x .end
   pub going : r .deeper ≡ true → r .walk .reply .kind ≡ 0
 
-after-met : {s s′ : List ℕ} {store work : ℕ} {z : states.Walk} {x : places.List} {r : Met} → MeetsList s s′ store work z x r → After s s′ store work z x r
-after-met {s} {s′} {store} {work} {z} {x} {r} m = go (met-case m)
+not-head : (arena : Arena) (s : List ℕ) (x : places.List) (k : ℕ) → (k < arena .heads) ⊎ (arena .heads + arena .names < k) → k ≡ headAt arena s x → ⊥
+unfolding headAt
+not-head arena s x k (inl low) e = omega arith
+not-head arena s x k (inr high) e = omega (arith, bucket-most (arena .names) (sumAt arena s x))
+
+after-met : {s s′ : List ℕ} {arena : Arena} {work : ℕ} {z : states.Walk} {x : places.List} {r : Met} → MeetsList s s′ arena work z x r → After s s′ arena work z x r
+after-met {s} {s′} {arena} {work} {z} {x} {r} m = go (met-case m)
   where
-    go : MetCase s s′ store work z x (m .old) r → After s s′ store work z x r
+    go : MetCase s s′ arena work z x (m .old) r → After s s′ arena work z x r
     go (again old result words) = rw (result, words) (let paid = charges work 1 z in record {
       long = refl;
-      words = λ k _. refl;
+      words = λ k _ _ _. refl;
       list = refl;
       expansions = paid .expansions;
       operation = paid .operation;
@@ -109,7 +115,7 @@ after-met {s} {s′} {store} {work} {z} {x} {r} m = go (met-case m)
     })
     go (refused old stop result words) = rw (result, words) (let paid = charges work (1 + lengthOf x) z in record {
       long = refl;
-      words = λ k _. refl;
+      words = λ k _ _ _. refl;
       list = refl;
       expansions = paid .expansions;
       operation = paid .operation;
@@ -118,9 +124,9 @@ after-met {s} {s′} {store} {work} {z} {x} {r} m = go (met-case m)
       end = λ e. absurd (false≢true e);
       going = λ e. absurd (false≢true e);
     })
-    go (stored old go-on result words) = rw (result, words) (let paid = charges work (1 + lengthOf x) z in record {
-      long = length-set s (store + z .known) (lengthOf x);
-      words = λ k ne. getD-set-other s (store + z .known) k (lengthOf x) 0 ne;
+    go (stored old go-on result words) = rw (result, words) (let paid = charges work (1 + lengthOf x) z in let kept = keeps arena (headAt arena s x) (z .known) x s in record {
+      long = kept .long;
+      words = λ k aside link place. kept .words k link (not-head arena s x k aside) place;
       list = refl;
       expansions = paid .expansions;
       operation = paid .operation;
@@ -134,7 +140,7 @@ after-met {s} {s′} {store} {work} {z} {x} {r} m = go (met-case m)
 
 module _ {image : List ℕ} {arena : Arena} {work : ℕ} {s s₁ s₂ : List ℕ} {z : states.Walk} {x : Expansion} {end : ℕ} {m : Met}
     (ample : Ample work 0 z) (begun : Begun z x) (expanded : Expanded image arena s s₁ x end)
-    (met : MeetsList s₁ s₂ (arena .store) work (record { reply = z .reply; known = z .known; expansions = x .number }) (record { start = x .listed; end = end }) m)
+    (met : MeetsList s₁ s₂ arena work (record { reply = z .reply; known = z .known; expansions = x .number }) (record { start = x .listed; end = end }) m)
     (starts : List ℕ) (site : Site image arena work (z .reply .operation) s z) (queued : Queued image arena work (z .reply .operation) s x starts) where
   op : ℕ
   op = z .reply .operation
@@ -154,6 +160,12 @@ module _ {image : List ℕ} {arena : Arena} {work : ℕ} {s s₁ s₂ : List ℕ
   -- the links of what is known stand before the store
   spread-known : arena .links + 4 * z .known ≤ arena .store
   spread-known = omega (arith, site .spread, low)
+
+  spread-more : arena .links + 4 * suc (z .known) ≤ arena .store
+  spread-more = omega (arith, site .spread, low)
+
+  before-heads : (k : ℕ) → k < arena .marks → k < arena .heads
+  before-heads k h = omega (arith, regions .queue, regions .lasts, regions .heads)
 
   listed : Listed image arena (document image) s s₁ x end starts
   listed = expanded .lists _ _ starts (record {
@@ -176,24 +188,30 @@ module _ {image : List ℕ} {arena : Arena} {work : ℕ} {s s₁ s₂ : List ℕ
   list₁ : AtHand s₁ (arena .store) at-hand l
   list₁ = record { rows = listed-expand listed (site .sound) (queued .hand) }
 
-  holds₁ : (ls : List (List ℕ)) (used : ℕ) → Holds s (arena .store) (z .reply .operation) z ls used → Holds s₁ (arena .store) (z .reply .operation) z₁ ls used
+  holds₁ : (ls : List (List ℕ)) (used : ℕ) → Holds s arena (z .reply .operation) z ls used → Holds s₁ arena (z .reply .operation) z₁ ls used
   holds₁ ls used h = record {
-    known = record { stored = stores-same (listed .frame .long) (λ k ge less. listed .frame .known k ge (omega (arith, begun .listed))) (h .known .stored) };
+    known = known-kept (z .known) (heads-low regions) (known-told (h .known)) (listed .frame .long) (λ k ge less. listed .frame .links k (omega (arith, regions .heads)) (omega (arith, spread-known)))
+        (λ k ge less. listed .frame .known k ge (omega (arith, begun .listed))) (h .known);
     reply = h .reply;
   }
 
-  left : After s₁ s₂ (arena .store) work z₁ at-hand m
+  left : After s₁ s₂ arena work z₁ at-hand m
   left = after-met met
 
   kept : Kept image arena work (z .reply .operation) s s₂ z (m .walk)
   kept = record {
     long = left .long ∙ listed .frame .long;
-    parents = λ k h. left .words k (λ e. omega (arith, regions .queue, regions .lasts, regions .links, regions .store)) ∙ listed .frame .parents k h;
-    links = λ k h less. left .words k (λ e. omega (arith, spread-known)) ∙ listed .frame .links k (omega (arith, regions .links)) (omega (arith, spread-known));
-    known = λ k h less. left .words k (λ e. omega arith) ∙ listed .frame .known k h (omega (arith, begun .listed));
-    beyond = λ k h. left .words k (λ e. omega (arith, low)) ∙ listed .frame .beyond k (omega (arith, listed .most, begun .listed, low));
+    parents = λ k h. left .words k (inl (before-heads k h)) (λ e. omega (arith, before-heads k h, regions .links)) (λ e. omega (arith, before-heads k h, regions .links, regions .store)) ∙ listed .frame .parents k h;
+    links = λ k h less. left .words k (inr (omega (arith, heads-low regions))) (λ e. omega arith) (λ e. omega (arith, spread-known)) ∙ listed .frame .links k (omega (arith, regions .heads, regions .links)) (omega (arith, spread-known));
+    known = λ k h less. left .words k (inr (omega (arith, heads-low regions, regions .store))) (λ e. omega (arith, spread-more)) (λ e. omega arith) ∙ listed .frame .known k h (omega (arith, begun .listed));
+    beyond = λ k h. left .words k (inr (omega (arith, heads-low regions, regions .store))) (λ e. omega (arith, spread-more)) (λ e. omega (arith, low)) ∙ listed .frame .beyond k (omega (arith, listed .most, begun .listed, low));
     grows = left .grows (omega (arith, listed .grows, begun .listed));
   }
+
+  mark-stays : (j : ℕ) → j < countAt image fragments → getD s₂ (arena .marks + j) 0 ≡ getD s₁ (arena .marks + j) 0
+  mark-stays j h =
+      let low : arena .marks + j < arena .heads = omega (arith, regions .queue, regions .lasts, regions .heads) in
+      left .words (arena .marks + j) (inl low) (λ e. omega (arith, low, regions .links)) (λ e. omega (arith, low, regions .links, regions .store))
 
   site₂ : m .walk .reply .kind ≡ 0 → Site image arena work (z .reply .operation) s₂ (m .walk)
   site₂ at-0 = record {
@@ -204,22 +222,22 @@ module _ {image : List ℕ} {arena : Arena} {work : ℕ} {s s₁ s₂ : List ℕ
     parents = λ r h. kept .parents r (omega (arith, regions .names, regions .pairs, regions .marks)) ∙ site .parents r h;
     classes = classed-kept (λ k h. kept .parents k (omega (arith, in-front regions))) (site .classes);
     room = rw (kept .long) (site .room);
-    marks = λ j h. rw (left .expansions, left .words (arena .marks + j) (λ e. omega (arith, regions .queue, regions .lasts, regions .links, regions .store))) (listed .marks j h);
+    marks = λ j h. rw (left .expansions, mark-stays j h) (listed .marks j h);
     within = left .within at-0;
   }
 
-  flat-tells : m .deeper ≡ false → (P : Pass) (levels : ℕ) (ls : List (List ℕ)) (used : ℕ) → Holds s (arena .store) (z .reply .operation) z ls used
-      → Tells s₂ (arena .store) (z .reply .operation) (m .walk) (walk (document image) P work levels starts ls used)
+  flat-tells : m .deeper ≡ false → (P : Pass) (levels : ℕ) (ls : List (List ℕ)) (used : ℕ) → Holds s arena (z .reply .operation) z ls used
+      → Tells s₂ arena (z .reply .operation) (m .walk) (walk (document image) P work levels starts ls used)
   unfolding walk
   flat-tells flat P zero ls used h = tt
   flat-tells flat P (suc levels) ls used h = met-done (z .reply .operation) met l list₁ ls used (holds₁ ls used h) flat (document image) P (walk (document image) P work levels)
 
-  entered-same : m .deeper ≡ true → (P : Pass) (levels : ℕ) (ls : List (List ℕ)) (used : ℕ) → Holds s (arena .store) (z .reply .operation) z ls used
+  entered-same : m .deeper ≡ true → (P : Pass) (levels : ℕ) (ls : List (List ℕ)) (used : ℕ) → Holds s arena (z .reply .operation) z ls used
       → walk (document image) P work levels starts ls used ≡ walkList image arena work (z .reply .operation) P levels l (ls ++ l ∷ []) (used + suc (length l))
   unfolding walk walkList
   entered-same deeper P zero ls used h = refl
   entered-same deeper P (suc levels) ls used h =
-      met-entered (z .reply .operation) met l list₁ ls used (holds₁ ls used h) deeper (begun .listed) (listed .grows) .2 (document image) P (walk (document image) P work levels)
+      met-entered (z .reply .operation) met l list₁ ls used (holds₁ ls used h) deeper (heads-low regions) spread-more (begun .listed) (listed .grows) .2 (document image) P (walk (document image) P work levels)
 
   rows-l : Rows image arena work (z .reply .operation) l
   rows-l = record {
@@ -229,7 +247,7 @@ module _ {image : List ℕ} {arena : Arena} {work : ℕ} {s s₁ s₂ : List ℕ
   }
 
   list₂ : AtHand s₂ (arena .store) (m .list) l
-  list₂ = rw (left .list) (record { rows = stores-same (left .long) (λ k ge less. left .words k (λ e. omega (arith, begun .listed))) (list₁ .rows) })
+  list₂ = rw (left .list) (record { rows = stores-same (left .long) (λ k ge less. left .words k (inr (omega (arith, heads-low regions, regions .store))) (λ e. omega (arith, spread-more)) (λ e. omega (arith, begun .listed))) (list₁ .rows) })
 
   -- where the list was entered it is linked
   module _ (deeper : m .deeper ≡ true) where
@@ -253,7 +271,7 @@ module _ {image : List ℕ} {arena : Arena} {work : ℕ} {s s₁ s₂ : List ℕ
             rows = row;
             classes = rw (regions .names) (site-met .classes .names-below);
             apart = omega (arith, regions .pairs, regions .marks, regions .queue, regions .lasts);
-            before = omega (arith, regions .links);
+            before = omega (arith, regions .heads, regions .links);
             below = omega (arith, fits, site .spread);
             inside = omega (arith, fits, site-met .room);
           };
@@ -261,10 +279,11 @@ module _ {image : List ℕ} {arena : Arena} {work : ℕ} {s s₁ s₂ : List ℕ
             rows = row;
             classes = rw (regions .pairs, regions .names) (site-met .classes .pairs-below);
             apart = omega (arith, regions .marks, regions .queue, regions .lasts);
-            before = omega (arith, regions .links, regions .small);
+            before = omega (arith, regions .heads, regions .links, regions .small);
             below = omega (arith, fits, site .spread, regions .small);
             inside = omega (arith, fits, site-met .room);
           };
+          heads = omega (arith, regions .heads);
           small = regions .small;
         }
 
@@ -300,14 +319,15 @@ module _ {image : List ℕ} {arena : Arena} {work : ℕ} {s s₁ s₂ : List ℕ
       kept = record {
         long = framed .long ∙ kept .long;
         parents = λ k h. framed .front k (omega (arith, regions .queue, regions .lasts)) ∙ kept .parents k h;
-        links = λ k h less. framed .links k h (omega (arith, start-is deeper)) ∙ kept .links k h less;
+        links = λ k h less. framed .links k (omega (arith, heads-low regions)) (omega (arith, start-is deeper)) ∙ kept .links k h less;
         known = λ k h less. framed .store k h ∙ kept .known k h less;
         beyond = λ k h. framed .store k (omega arith) ∙ kept .beyond k h;
         grows = kept .grows;
       };
       goes = λ ls used h.
-          let was = met-entered (z .reply .operation) met l list₁ ls used (holds₁ ls used h) deeper (begun .listed) (listed .grows) .0 in
-          record { known = record { stored = stores-same (framed .long) (λ k ge less. framed .store k ge) (was .known .stored) }; reply = was .reply };
+          let met-now = met-entered (z .reply .operation) met l list₁ ls used (holds₁ ls used h) deeper (heads-low regions) spread-more (begun .listed) (listed .grows) in
+          let was = met-now .0 in
+          record { known = known-kept (x .listed) (heads-low regions) (met-now .3) (framed .long) (λ k ge less. framed .links k ge (omega (arith, start-is deeper, begun .listed))) (λ k ge less. framed .store k ge) (was .known); reply = was .reply };
       same = entered-same deeper P;
     }
 
@@ -321,7 +341,7 @@ pub data Linking (arena : Arena) (s s′ : List ℕ) (m : Met) : Type 0 where
 
 pub meets-sets : {image : List ℕ} {arena : Arena} {work : ℕ} {s s₁ s₂ s′ : List ℕ} {z : states.Walk} {x : Expansion} {end : ℕ} {m : Met}
     → Ample work 0 z → Begun z x → Expanded image arena s s₁ x end
-    → MeetsList s₁ s₂ (arena .store) work (record { reply = z .reply; known = z .known; expansions = x .number }) (record { start = x .listed; end = end }) m
+    → MeetsList s₁ s₂ arena work (record { reply = z .reply; known = z .known; expansions = x .number }) (record { start = x .listed; end = end }) m
     → Linking arena s₂ s′ m → MeetsSets image arena work s s′ z x m
 meets-sets {image} {arena} {work} {s} {s₂ = s₂} {s′ = s′} {z = z} {x = x} {m = m} ample begun expanded met linking = record {
   operation = after-met met .operation;

@@ -2,15 +2,15 @@
 use mathlib.Core.Path.{_≡_, sym, _∙_, subst}
 use mathlib.Core.Bool.{Bool, true, false}
 use mathlib.Core.List.{List, [], _∷_, _++_}
-use Prim.Native.Nat.{ℕ, suc, _+_, _-_, _≤_, _<_}
+use Prim.Native.Nat.{ℕ, suc, _+_, _-_, _≤_, _<_, min}
 use native.Mathlib.Omega.{arith}
-use lib.ListN.{length}
-use Rattle.lists.specs.Part.{Stores, Outside}
+use lib.ListN.{length, replicate}
+use Rattle.lists.specs.Part.{write, Stores, Outside}
 use Rattle.lists.proofs.Parts.{stores-none, outside-wider}
 use Rattle.merge_theory.specs.Rule.{Reached, start}
 use Rattle.merge_theory.specs.Walk.{Step, Pass, walk}
 use Rattle.merge_theory.proofs.ListLaws.{not-in-nil, only}
-use Rattle.tables.specs.Layout.{operations, sets}
+use Rattle.tables.specs.Layout.{operations, fragments, sets}
 use Rattle.tables.specs.Image.{countAt}
 use Rattle.selection.specs.declared.arena.Arena.{Arena}
 use Rattle.selection.specs.declared.arena.Walk as states
@@ -21,9 +21,10 @@ use Rattle.selection.specs.Expanding.{queueNext, queueWords, once-none, 
 use Rattle.selection.specs.Refining.{document, passOf, Ample, Begun, Site, Refines, Meets, MeetsSets, WalksList}
 use Rattle.selection.specs.Validating.{forgotten, MeetsOperation, Runs}
 use Rattle.selection.proofs.ExpandedLaws.{queue-next, queue-stores, queue-outside}
-use Rattle.selection.proofs.KnownLaws.{known-nothing}
+use Rattle.selection.proofs.ClearLaws.{Cleared, cleared}
+use Rattle.selection.proofs.KnownLaws.{known-none}
 use Rattle.selection.proofs.RefineLaws.{kept-trans, then-go, by}
-use Rattle.selection.proofs.StandLaws.{site-queue}
+use Rattle.selection.proofs.StandLaws.{classed-kept, heads-low, in-front, site-queue}
 use Rattle.selection.proofs.QueueingLaws.{next-listed}
 use Rattle.selection.proofs.LoopLaws.{WalksAs}
 use Rattle.selection.proofs.PartMeets.{aside, finished-first}
@@ -81,7 +82,7 @@ operation-met {image} {arena} {work} {operation} {s} {s₁} {s′} {z} x₀ {x} 
       let site₀ = site-forgotten site in
       let some-sets : operation < countAt image sets = omega (arith, site .good .own-sets, row) in
       let room : arena .queue + x₀ .queued < arena .lasts = omega (arith, r .lasts, some-sets, empty) in
-      let inside : arena .lasts ≤ length s = omega (arith, site .room, r .links, r .store) in
+      let inside : arena .lasts ≤ length s = omega (arith, site .room, r .heads, r .links, r .store) in
       let nothing : Stores s (arena .queue) (x₀ .queued) [] = rw empty (stores-none s (arena .queue) (omega (arith, inside, r .lasts))) in
       let o : Outside (arena .queue) (arena .lasts - arena .queue) s s₁ = rw words (outside-wider (queue-outside arena x₀ s operation room) (arena .queue) (arena .lasts - arena .queue) (omega arith) (omega (arith, room))) in
       let one : x .queued ≡ x₀ .queued + 1 = rw (next, queue-next arena x₀ s operation room) in
@@ -95,28 +96,63 @@ operation-met {image} {arena} {work} {operation} {s} {s₁} {s′} {z} x₀ {x} 
 
 -- ---- a pass
 
-runs-by : {image : List ℕ} {arena : Arena} {work operation : ℕ} {s s′ : List ℕ} {z z′ : states.Walk} {isShape : Bool} → length s′ ≡ length s → z′ .reply .operation ≡ z .reply .operation
-    → (z′ .reply .kind ≡ 0 → Ample work 0 z′)
-    → (Site image arena work (z .reply .operation) s z → operation ≡ z .reply .operation → operation < countAt image operations
-    → Refines image arena work (z .reply .operation) (walk (document image) (passOf image isShape) work (suc limitOfLinks) (operation ∷ [])) s s′ (forgotten z) z′)
+-- the words once all known lists are forgotten
+abbrev emptied : Arena → List ℕ → List ℕ
+emptied arena s = write s (arena .heads) (replicate (min (arena .names + 1) (length s - arena .heads)) 0)
+
+module _ {image : List ℕ} {arena : Arena} {work op : ℕ} {s s₀ : List ℕ} {z : states.Walk} (forgot : s₀ ≡ emptied arena s) (site : Site image arena work op s z) where
+  heads-clear : Cleared (arena .heads) (arena .names + 1) s s₀
+  heads-clear = let r = site .regions in cleared forgot (omega (arith, site .room, r .names, r .links, r .store))
+
+  spares : Outside (arena .heads) (arena .names + 1) s s₀
+  spares = heads-clear .outside
+
+  before-heads : arena .marks + countAt image fragments ≤ arena .heads
+  before-heads = let r = site .regions in omega (arith, r .queue, r .lasts, r .heads)
+
+  site-emptied : Site image arena work op s₀ z
+  site-emptied = record {
+    good = site .good;
+    regions = site .regions;
+    spread = site .spread;
+    sound = site .sound;
+    parents = λ k h. spares .below k (omega (arith, in-front (site .regions), before-heads)) ∙ site .parents k h;
+    classes = classed-kept (λ k h. spares .below k (omega (arith, in-front (site .regions), before-heads))) (site .classes);
+    room = rw (spares .long) (site .room);
+    marks = λ j h. rw (spares .below (arena .marks + j) (omega (arith, before-heads))) (site .marks j h);
+    within = site .within;
+  }
+
+runs-by : {image : List ℕ} {arena : Arena} {work operation : ℕ} {s s₀ s′ : List ℕ} {z z′ : states.Walk} {isShape : Bool} → s₀ ≡ emptied arena s → length s′ ≡ length s
+    → z′ .reply .operation ≡ z .reply .operation → (z′ .reply .kind ≡ 0 → Ample work 0 z′)
+    → (Site image arena work (z .reply .operation) s₀ z → operation ≡ z .reply .operation → operation < countAt image operations
+    → Refines image arena work (z .reply .operation) (walk (document image) (passOf image isShape) work (suc limitOfLinks) (operation ∷ [])) s₀ s′ (forgotten z) z′)
     → Runs image arena work operation s s′ z isShape z′
-runs-by {arena = arena} {s = s} long same ample refines = record {
+runs-by {arena = arena} forgot long same ample refines = record {
   long = long;
   same = same;
   ample = ample;
-  site = λ site is row go. refines site is row .site go;
-  frame = λ site is row. let k = refines site is row .kept in record { long = k .long; below = k .parents; beyond = k .beyond };
-  tells = λ used site is row reply. refines site is row .tells [] used (record { known = known-nothing s (arena .store) (omega (arith, site .room)); reply = reply });
+  site = λ site is row go. refines (site-emptied forgot site) is row .site go;
+  frame = λ site is row.
+      let k = refines (site-emptied forgot site) is row .kept in
+      let o = spares forgot site in
+      let r = site .regions in
+      record {
+        long = long;
+        below = λ i h. k .parents i h ∙ o .below i (omega (arith, before-heads forgot site));
+        beyond = λ i h. k .beyond i h ∙ o .above i (omega (arith, heads-low r, r .store));
+      };
+  tells = λ used site is row reply. refines (site-emptied forgot site) is row .tells [] used (record { known = known-none (λ key h. heads-clear forgot site .empty key (omega arith)); reply = reply });
 }
 
-module _ {image : List ℕ} {arena : Arena} {work operation : ℕ} {s s₁ : List ℕ} {z : states.Walk} {m : Met} (isShape : Bool) (long₁ : length s₁ ≡ length s)
-    (met : MeetsOperation image arena work operation s s₁ z m) where
+module _ {image : List ℕ} {arena : Arena} {work operation : ℕ} {s s₀ s₁ : List ℕ} {z : states.Walk} {m : Met} (isShape : Bool) (forgot : s₀ ≡ emptied arena s) (long₁ : length s₁ ≡ length s)
+    (met : MeetsOperation image arena work operation s₀ s₁ z m) where
   pub pass-flat : m .deeper ≡ false → Runs image arena work operation s s₁ z isShape (m .walk)
-  pass-flat flat = runs-by long₁ (met .same) (met .ample) (λ site is row. met .meets (passOf image isShape) site is row .done flat (suc limitOfLinks))
+  pass-flat flat = runs-by forgot long₁ (met .same) (met .ample) (λ site is row. met .meets (passOf image isShape) site is row .done flat (suc limitOfLinks))
 
   pub pass-deeper : m .deeper ≡ true → {s′ : List ℕ} {z′ : states.Walk} → WalksList image arena work s₁ s′ (m .walk) (m .list) isShape (suc limitOfLinks) z′
       → Runs image arena work operation s s′ z isShape z′
-  pass-deeper deeper {s′} {z′} walked = runs-by (walked .long ∙ long₁) (walked .operation ∙ met .same) (walked .ample) λ site is row.
+  pass-deeper deeper {s′} {z′} walked = runs-by forgot (walked .long ∙ long₁) (walked .operation ∙ met .same) (walked .ample) λ site is row.
       let e = met .meets (passOf image isShape) site is row .entered deeper in
       let r = walks (e .list) (e .site) (e .stands) (e .ordered) (e .stored) (e .rows) in
       record {

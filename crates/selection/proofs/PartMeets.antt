@@ -1,6 +1,5 @@
 -- One part of a list: compared, and its sets met. The three ways that this ends. Assumes nothing.
 use mathlib.Core.Path.{_≡_, refl, sym, ap, _∙_}
-use mathlib.Core.Logic.{inr}
 use mathlib.Core.Bool.{Bool, true, false, false≢true}
 use mathlib.Core.Option.{Option, none, some}
 use mathlib.Core.List.{List, [], _∷_}
@@ -8,7 +7,7 @@ use Prim.Native.Nat.{ℕ, _-_, _≤_}
 use native.Mathlib.Omega.{arith}
 use lib.ListN.{length}
 use Rattle.lists.specs.Part.{Outside}
-use Rattle.lists.proofs.Parts.{stores-none, stores-length, stores-kept}
+use Rattle.lists.proofs.Parts.{stores-none, stores-length}
 use Rattle.merge_theory.specs.Lists.{here, flatMap, filter}
 use Rattle.merge_theory.specs.Document.{Cause}
 use Rattle.merge_theory.specs.Walk.{Result, finished, conflict, Step, after, settle, against, compareFirst, descend, setsBelow, walk}
@@ -25,7 +24,8 @@ use Rattle.selection.specs.Comparing.{ComparesPart, QueuesPart, Queues, 
 use Rattle.selection.specs.Places.{rowIn}
 use Rattle.selection.proofs.RefineLaws.{some-kind, kept-none, kept-trans, then-go, then-stop, by, idle}
 use Rattle.selection.proofs.QueueingLaws.{field-kind-of, field-sets}
-use Rattle.selection.proofs.StandLaws.{grounded, threaded, site-queue}
+use Rattle.selection.proofs.KnownLaws.{known-told, known-kept}
+use Rattle.selection.proofs.StandLaws.{heads-low, grounded, threaded, site-queue}
 use Rattle.selection.proofs.BelowLaws.{below-start, below-hand, below-once, below-few}
 
 -- a comparison finds a conflict, or changes nothing
@@ -47,9 +47,9 @@ unfolding compareFirst
 compare-quiet clash [] ls used = quiet
 compare-quiet clash (a ∷ others) ls used = against-quiet clash a others ls used
 
-finished-if : (s : List ℕ) (store op : ℕ) (z : states.Walk) {ls : List (List ℕ)} {used : ℕ} (r : Result) → Quiet ls used r → Tells s store op z r → z .reply .kind ≡ 0 → r ≡ finished ls used
-finished-if s store op z (finished ls′ used′) quiet h go = refl
-finished-if s store op z (conflict c a b used′) (loud d p q) h go = absurd (some-kind c (sym (ap (λ r. r .kind) h) ∙ go))
+finished-if : (s : List ℕ) (arena : Arena) (op : ℕ) (z : states.Walk) {ls : List (List ℕ)} {used : ℕ} (r : Result) → Quiet ls used r → Tells s arena op z r → z .reply .kind ≡ 0 → r ≡ finished ls used
+finished-if s arena op z (finished ls′ used′) quiet h go = refl
+finished-if s arena op z (conflict c a b used′) (loud d p q) h go = absurd (some-kind c (sym (ap (λ r. r .kind) h) ∙ go))
 
 pub finished-first : (g : Step) (ls : List (List ℕ)) (used : ℕ) → after (finished ls used) g ≡ g ls used
 unfolding after
@@ -96,14 +96,17 @@ pub aside : {image : List ℕ} {arena : Arena} {work op : ℕ} {s s′ : List �
 aside {image} {arena} {work} {op} {s} {s′} {z} site o =
     let r = site .regions in
     record {
-      tells = λ ls used h. record { known = record { stored = stores-kept o (h .known .stored) (inr (omega (arith, r .lasts, r .links, r .store))) }; reply = h .reply };
+      tells = λ ls used h. record {
+        known = known-kept (z .known) (heads-low r) (known-told (h .known)) (o .long) (λ k ge less. o .above k (omega (arith, r .lasts, r .heads))) (λ k ge less. o .above k (omega (arith, r .lasts, r .heads, r .links, r .store))) (h .known);
+        reply = h .reply;
+      };
       site = λ _. site-queue site o;
       kept = record {
         long = o .long;
         parents = λ k h. o .below k (omega (arith, r .queue));
-        links = λ k h less. o .above k (omega (arith, r .lasts, r .links));
-        known = λ k h less. o .above k (omega (arith, r .lasts, r .links, r .store));
-        beyond = λ k h. o .above k (omega (arith, r .lasts, r .links, r .store));
+        links = λ k h less. o .above k (omega (arith, r .lasts, r .heads, r .links));
+        known = λ k h less. o .above k (omega (arith, r .lasts, r .heads, r .links, r .store));
+        beyond = λ k h. o .above k (omega (arith, r .lasts, r .heads, r .links, r .store));
         grows = omega arith;
       };
     }
@@ -147,7 +150,7 @@ module _ {image : List ℕ} {arena : Arena} {work : ℕ} {s : List ℕ} {z z₁ 
         stands = stands;
         ordered = ordered;
         listed = listed;
-        queue = rw empty (stores-none s (arena .queue) (omega (arith, site .room, site .regions .lasts, site .regions .links, site .regions .store)));
+        queue = rw empty (stores-none s (arena .queue) (omega (arith, site .room, site .regions .lasts, site .regions .heads, site .regions .links, site .regions .store)));
         fits = omega (arith, below-few site fields, site .regions .lasts);
       })
 
@@ -217,7 +220,7 @@ module _ {image : List ℕ} {arena : Arena} {work : ℕ} {s : List ℕ} {z z₁ 
                   goes = λ ls used h. e .goes ls used (beside .tells ls used h);
                   same = λ levels ls used h.
                       let still : compareFirst (passOf image isShape .clash) rows ls used ≡ finished ls used =
-                      finished-if s (arena .store) (z .reply .operation) z (compareFirst (passOf image isShape .clash) rows ls used) (compare-quiet (passOf image isShape .clash) rows ls used) (compare-done l rows site stands ordered listed p fields .tells ls used h) (ample .going) in
+                      finished-if s arena (z .reply .operation) z (compareFirst (passOf image isShape .clash) rows ls used) (compare-quiet (passOf image isShape .clash) rows ls used) (compare-done l rows site stands ordered listed p fields .tells ls used h) (ample .going) in
                       ap (λ r. after r (lower image arena work (z .reply .operation) (passOf image isShape) levels (setsBelow (document image) rows))) still
                       ∙ finished-first _ ls used
                       ∙ sets-below (walk (document image) (passOf image isShape) work levels) (setsBelow (document image) rows) some-below ls used

@@ -208,7 +208,7 @@ module _ {image : List ℕ} {arena : Arena} {s₀ : List ℕ} {e₀ : Expansion}
           let size = stores-length (u .queue) in
           let fits = can .fits in
           let room : arena .queue + e .queued < arena .lasts = omega arith in
-          let inside : arena .lasts ≤ length s = omega (arith, site-now .room, site-now .regions .links, site-now .regions .store) in
+          let inside : arena .lasts ≤ length s = omega (arith, site-now .room, site-now .regions .heads, site-now .regions .links, site-now .regions .store) in
           let is-e : e′ .queued ≡ e .queued + 1 = rw (next, h, queue-next arena e s t room) in
           let is-s : s′ ≡ queueWords arena e s t = rw (words, h) in
           record {
@@ -237,7 +237,7 @@ module _ {image : List ℕ} {arena : Arena} {s₀ : List ℕ} {e₀ : Expansion}
           let site′ = site-queue (can .site) frame in
           let stands′ = stands-queue (can .site) frame (can .listed) (can .ordered) (can .stands) in
           let G = grounded site′ (can .listed) (stands′ .rows) in
-          let row-stays : rowIn s′ (arena .store) place ≡ rowIn s (arena .store) place = more .frame .above (arena .store + place) (omega (arith, can .site .regions .lasts, can .site .regions .links, can .site .regions .store)) in
+          let row-stays : rowIn s′ (arena .store) place ≡ rowIn s (arena .store) place = more .frame .above (arena .store + place) (omega (arith, can .site .regions .lasts, can .site .regions .heads, can .site .regions .links, can .site .regions .store)) in
           let here : belongs image s′ g (rowIn s′ (arena .store) place) ≡ true = belongs-is G g place at-place near ∙ ap (member (document image) g) row-stays ∙ v .found .passes near in
           let F = follows (threaded site′ (can .listed) stands′) (document image) (G .objects) g proper in
           let found-next : after ≡ memberPlace image s′ (arena .store) g (place + 1) (x .end) = found ∙ ap (followed s′ arena (g .kind) place) (sym is) ∙ F place at-place near here in
@@ -257,7 +257,7 @@ module _ {image : List ℕ} {arena : Arena} {s₀ : List ℕ} {e₀ : Expansion}
 -- the rows of the store stay while sets are queued
 stays-at : {image : List ℕ} {arena : Arena} {work op : ℕ} {s s′ : List ℕ} {z : states.Walk} {x : places.List} {l : List ℕ} {e : Expansion} {sets rows : List ℕ} (place : ℕ)
     → CanQueue image arena work op s z x l e sets rows → Outside (arena .queue) (arena .lasts - arena .queue) s s′ → rowIn s′ (arena .store) place ≡ rowIn s (arena .store) place
-stays-at {arena = arena} place can o = let r = can .site .regions in o .above (arena .store + place) (omega (arith, r .lasts, r .links, r .store))
+stays-at {arena = arena} place can o = let r = can .site .regions in o .above (arena .store + place) (omega (arith, r .lasts, r .heads, r .links, r .store))
 
 pub queued-part : {image : List ℕ} {arena : Arena} {s s₁ s′ : List ℕ} {e e₁ e′ : Expansion} {part : Part} → QueuesSegment image arena s s₁ e e₁ (part .list) (part .front) (part .first)
     → QueuesSegment image arena s₁ s′ e₁ e′ (part .list) (part .back) (part .next) → QueuesPart image arena s s′ e e′ part

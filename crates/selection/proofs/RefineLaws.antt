@@ -2,12 +2,11 @@
 use mathlib.Core.Path.{_≡_, refl, sym, ap, _∙_}
 use mathlib.Core.Bool.{Bool, true, false, cond, false≢true}
 use mathlib.Core.List.{List, [], _∷_, _++_}
-use Prim.Native.Nat.{ℕ, suc, _+_, _≤_}
+use Prim.Native.Nat.{ℕ, suc, _+_, _*_, _≤_, _<_}
 use native.Mathlib.Omega.{arith}
 use lib.Dec.{leb, eqb}
-use lib.ListN.{length, set}
+use lib.ListN.{length}
 use borrow.Author.Tests.{leb-true, eqb-true, eqb-false}
-use Rattle.lists.specs.Part.{Stores}
 use Rattle.lists.proofs.Parts.{stores-length}
 use Rattle.merge_theory.specs.Lists.{isKnown}
 use Rattle.merge_theory.specs.Document.{Document, Cause, shape, name, arguments, numberOf}
@@ -16,9 +15,9 @@ use Rattle.selection.specs.declared.arena.Arena.{Arena}
 use Rattle.selection.specs.declared.arena.Walk as states
 use Rattle.selection.specs.declared.arena.List as places
 use Rattle.selection.specs.declared.walk.Met.{Met}
-use Rattle.selection.specs.KnownLists.{Known, AtHand}
+use Rattle.selection.specs.KnownLists.{Known, AtHand, headAt, keptWords}
 use Rattle.selection.specs.Refining.{Holds, Tells, charged, lengthOf, entered, metList, metWords, MeetsList, Site, Kept, Refines}
-use Rattle.selection.proofs.KnownLaws.{known-more}
+use Rattle.selection.proofs.KnownLaws.{head-is, ToldBelow, keeps, known-more}
 
 pub some-kind : (c : Cause) → numberOf c ≡ 0 → ⊥
 some-kind shape e = omega arith
@@ -28,21 +27,21 @@ some-kind arguments e = omega arith
 -- ---- one step after another
 
 -- the walk goes on: only where the first step finished
-pub tells-go : (s s′ : List ℕ) (store op : ℕ) (z z′ : states.Walk) (r : Result) (next : Step) → Tells s store op z r → z .reply .kind ≡ 0
-    → ((ls : List (List ℕ)) (used : ℕ) → Holds s store op z ls used → Tells s′ store op z′ (next ls used)) → Tells s′ store op z′ (after r next)
+pub tells-go : (s s′ : List ℕ) (arena : Arena) (op : ℕ) (z z′ : states.Walk) (r : Result) (next : Step) → Tells s arena op z r → z .reply .kind ≡ 0
+    → ((ls : List (List ℕ)) (used : ℕ) → Holds s arena op z ls used → Tells s′ arena op z′ (next ls used)) → Tells s′ arena op z′ (after r next)
 unfolding after
-tells-go s s′ store op z z′ (finished ls used) next h go f = f ls used h
-tells-go s s′ store op z z′ (conflict c a b used) next h go f = absurd (some-kind c (sym (ap (λ r. r .kind) h) ∙ go))
-tells-go s s′ store op z z′ (out used) next h go f = absurd (let k : z .reply .kind ≡ 17 = ap (λ r. r .kind) h in omega arith)
-tells-go s s′ store op z z′ deep next h go f = tt
+tells-go s s′ arena op z z′ (finished ls used) next h go f = f ls used h
+tells-go s s′ arena op z z′ (conflict c a b used) next h go f = absurd (some-kind c (sym (ap (λ r. r .kind) h) ∙ go))
+tells-go s s′ arena op z z′ (out used) next h go f = absurd (let k : z .reply .kind ≡ 17 = ap (λ r. r .kind) h in omega arith)
+tells-go s s′ arena op z z′ deep next h go f = tt
 
 -- the walk stops
-pub tells-stop : (s : List ℕ) (store op : ℕ) (z : states.Walk) (r : Result) (next : Step) → Tells s store op z r → (z .reply .kind ≡ 0 → ⊥) → Tells s store op z (after r next)
+pub tells-stop : (s : List ℕ) (arena : Arena) (op : ℕ) (z : states.Walk) (r : Result) (next : Step) → Tells s arena op z r → (z .reply .kind ≡ 0 → ⊥) → Tells s arena op z (after r next)
 unfolding after
-tells-stop s store op z (finished ls used) next h stop = absurd (stop (ap (λ r. r .kind) (h .reply)))
-tells-stop s store op z (conflict c a b used) next h stop = h
-tells-stop s store op z (out used) next h stop = h
-tells-stop s store op z deep next h stop = tt
+tells-stop s arena op z (finished ls used) next h stop = absurd (stop (ap (λ r. r .kind) (h .reply)))
+tells-stop s arena op z (conflict c a b used) next h stop = h
+tells-stop s arena op z (out used) next h stop = h
+tells-stop s arena op z deep next h stop = tt
 
 module _ {image : List ℕ} {arena : Arena} {work op : ℕ} where
   pub kept-trans : {s s′ s″ : List ℕ} {z z′ z″ : states.Walk} → Kept image arena work op s s′ z z′ → Kept image arena work op s′ s″ z′ z″ → Kept image arena work op s s″ z z″
@@ -61,7 +60,7 @@ module _ {image : List ℕ} {arena : Arena} {work op : ℕ} where
   pub then-go : {f g : Step} {s s′ s″ : List ℕ} {z z′ z″ : states.Walk} → Refines image arena work op f s s′ z z′ → z′ .reply .kind ≡ 0
       → Refines image arena work op g s′ s″ z′ z″ → Refines image arena work op (f then g) s s″ z z″
   then-go {f} {g} {s} {s′} {s″} {z} {z′} {z″} p go q = record {
-    tells = λ ls used h. tells-go s′ s″ (arena .store) op z′ z″ (f ls used) g (p .tells ls used h) go (q .tells);
+    tells = λ ls used h. tells-go s′ s″ arena op z′ z″ (f ls used) g (p .tells ls used h) go (q .tells);
     site = q .site;
     kept = kept-trans (p .kept) (q .kept);
   }
@@ -69,13 +68,13 @@ module _ {image : List ℕ} {arena : Arena} {work op : ℕ} where
   pub then-stop : {f : Step} (g : Step) {s s′ : List ℕ} {z z′ : states.Walk} → Refines image arena work op f s s′ z z′ → (z′ .reply .kind ≡ 0 → ⊥)
       → Refines image arena work op (f then g) s s′ z z′
   then-stop {f} g {s} {s′} {z} {z′} p stop = record {
-    tells = λ ls used h. tells-stop s′ (arena .store) op z′ (f ls used) g (p .tells ls used h) stop;
+    tells = λ ls used h. tells-stop s′ arena op z′ (f ls used) g (p .tells ls used h) stop;
     site = p .site;
     kept = p .kept;
   }
 
   -- a step that does, at this state, what another does
-  pub by : {f : Step} (g : Step) {s s′ : List ℕ} {z z′ : states.Walk} → ((ls : List (List ℕ)) (used : ℕ) → Holds s (arena .store) op z ls used → g ls used ≡ f ls used)
+  pub by : {f : Step} (g : Step) {s s′ : List ℕ} {z z′ : states.Walk} → ((ls : List (List ℕ)) (used : ℕ) → Holds s arena op z ls used → g ls used ≡ f ls used)
       → Refines image arena work op f s s′ z z′ → Refines image arena work op g s s′ z z′
   by g {s′ = s′} {z′ = z′} same p = record { tells = λ ls used h. rw (same ls used h) (p .tells ls used h); site = p .site; kept = p .kept }
 
@@ -84,12 +83,12 @@ module _ {image : List ℕ} {arena : Arena} {work op : ℕ} where
 
 -- ---- a charge
 
-pub charge-tells : (s : List ℕ) (store op work cost : ℕ) (z : states.Walk) (ls : List (List ℕ)) (used : ℕ) → Holds s store op z ls used
-    → Tells s store op (charged work cost z) (charge work cost ls used)
+pub charge-tells : (s : List ℕ) (arena : Arena) (op work cost : ℕ) (z : states.Walk) (ls : List (List ℕ)) (used : ℕ) → Holds s arena op z ls used
+    → Tells s arena op (charged work cost z) (charge work cost ls used)
 unfolding charged charge chargeIf
-charge-tells s store op work cost z ls used h = rw (ap (λ r. r .used) (h .reply)) (go (leb (used + cost) work))
+charge-tells s arena op work cost z ls used h = rw (ap (λ r. r .used) (h .reply)) (go (leb (used + cost) work))
   where
-    go : (b : Bool) → Tells s store op (cond b (record {
+    go : (b : Bool) → Tells s arena op (cond b (record {
       reply = record { kind = z .reply .kind; operation = z .reply .operation; a = z .reply .a; b = z .reply .b; used = used + cost };
       known = z .known;
       expansions = z .expansions;
@@ -115,20 +114,20 @@ pub record Paid (work cost : ℕ) (z : states.Walk) (ls : List (List ℕ)) (used
   pub fits : used + cost ≤ work
   pub units : charged work cost z .reply .used ≡ used + cost
 
-paid-if : (s : List ℕ) (store op work cost : ℕ) (z : states.Walk) (ls : List (List ℕ)) (used : ℕ) → Holds s store op z ls used → leb (used + cost) work ≡ true → Paid work cost z ls used
+paid-if : (s : List ℕ) (arena : Arena) (op work cost : ℕ) (z : states.Walk) (ls : List (List ℕ)) (used : ℕ) → Holds s arena op z ls used → leb (used + cost) work ≡ true → Paid work cost z ls used
 unfolding charge chargeIf
-paid-if s store op work cost z ls used h e =
+paid-if s arena op work cost z ls used h e =
     record { made = rw e; fits = leb-true (used + cost) work e; units = paid-fields work cost z used (ap (λ r. r .used) (h .reply)) e }
 
-pub charge-paid : (s : List ℕ) (store op work cost : ℕ) (z : states.Walk) (ls : List (List ℕ)) (used : ℕ) → Holds s store op z ls used
+pub charge-paid : (s : List ℕ) (arena : Arena) (op work cost : ℕ) (z : states.Walk) (ls : List (List ℕ)) (used : ℕ) → Holds s arena op z ls used
     → charged work cost z .reply .kind ≡ 0 → Paid work cost z ls used
-charge-paid s store op work cost z ls used h go = by-test (leb (used + cost) work) refl
+charge-paid s arena op work cost z ls used h go = by-test (leb (used + cost) work) refl
   where
     units : z .reply .used ≡ used
     units = ap (λ r. r .used) (h .reply)
 
     by-test : (b : Bool) → leb (used + cost) work ≡ b → Paid work cost z ls used
-    by-test true e = paid-if s store op work cost z ls used h e
+    by-test true e = paid-if s arena op work cost z ls used h e
     by-test false e = absurd (let k = refused-kind work cost z used units e in omega (arith, k, go))
 
 pub after-finished : (r : Result) → after r finished ≡ r
@@ -141,73 +140,72 @@ after-finished deep = refl
 -- ---- a list that is met
 
 -- the three ways
-pub data MetCase (s s′ : List ℕ) (store work : ℕ) (z : states.Walk) (x : places.List) (old : Bool) (r : Met) : Type 0 where
-  again : old ≡ true → r ≡ record { walk = charged work 1 z; list = x; deeper = false } → s′ ≡ s → MetCase s s′ store work z x old r
+pub data MetCase (s s′ : List ℕ) (arena : Arena) (work : ℕ) (z : states.Walk) (x : places.List) (old : Bool) (r : Met) : Type 0 where
+  again : old ≡ true → r ≡ record { walk = charged work 1 z; list = x; deeper = false } → s′ ≡ s → MetCase s s′ arena work z x old r
   refused : old ≡ false → (charged work (1 + lengthOf x) z .reply .kind ≡ 0 → ⊥) → r ≡ record { walk = charged work (1 + lengthOf x) z; list = x; deeper = false } → s′ ≡ s
-      → MetCase s s′ store work z x old r
+      → MetCase s s′ arena work z x old r
   stored : old ≡ false → charged work (1 + lengthOf x) z .reply .kind ≡ 0
       → r ≡ record { walk = record { reply = charged work (1 + lengthOf x) z .reply; known = x .end; expansions = charged work (1 + lengthOf x) z .expansions }; list = x; deeper = true }
-      → s′ ≡ set s (store + z .known) (lengthOf x) → MetCase s s′ store work z x old r
+      → s′ ≡ keptWords arena (headAt arena s x) (z .known) x s → MetCase s s′ arena work z x old r
 
-pub met-case : {s s′ : List ℕ} {store work : ℕ} {z : states.Walk} {x : places.List} {r : Met} (m : MeetsList s s′ store work z x r) → MetCase s s′ store work z x (m .old) r
+pub met-case : {s s′ : List ℕ} {arena : Arena} {work : ℕ} {z : states.Walk} {x : places.List} {r : Met} (m : MeetsList s s′ arena work z x r) → MetCase s s′ arena work z x (m .old) r
 unfolding metList metWords entered
-met-case {s} {s′} {store} {work} {z} {x} {r} m = go (m .old) (m .result) (m .words)
+met-case {s} {s′} {arena} {work} {z} {x} {r} m = go (m .old) (m .result) (m .words)
   where
     paid : states.Walk
     paid = charged work (1 + lengthOf x) z
 
     by-kind : (b : Bool) → eqb (paid .reply .kind) 0 ≡ b
         → r ≡ cond b (record { walk = record { reply = paid .reply; known = x .end; expansions = paid .expansions }; list = x; deeper = true }) (record { walk = paid; list = x; deeper = false })
-        → s′ ≡ cond b (set s (store + z .known) (lengthOf x)) s → MetCase s s′ store work z x false r
+        → s′ ≡ cond b (keptWords arena (headAt arena s x) (z .known) x s) s → MetCase s s′ arena work z x false r
     by-kind true e result words = stored refl (eqb-true _ _ e) result words
     by-kind false e result words = refused refl (eqb-false _ _ e) result words
 
-    go : (b : Bool) → r ≡ metList work z x b → s′ ≡ metWords store work z x b s → MetCase s s′ store work z x b r
+    go : (b : Bool) → r ≡ metList work z x b → s′ ≡ metWords arena work z x b s → MetCase s s′ arena work z x b r
     go true result words = again refl result words
     go false result words = by-kind (eqb (paid .reply .kind) 0) refl result words
 
-module _ {s s′ : List ℕ} {store work : ℕ} {z : states.Walk} {x : places.List} {r : Met} (op : ℕ) (m : MeetsList s s′ store work z x r)
-    (l : List ℕ) (list : AtHand s store x l) where
+module _ {s s′ : List ℕ} {arena : Arena} {work : ℕ} {z : states.Walk} {x : places.List} {r : Met} (op : ℕ) (m : MeetsList s s′ arena work z x r)
+    (l : List ℕ) (list : AtHand s (arena .store) x l) where
   rows-are : lengthOf x ≡ length l
   rows-are = sym (stores-length (list .rows))
 
-  module _ (ls : List (List ℕ)) (used : ℕ) (h : Holds s store op z ls used) where
+  module _ (ls : List (List ℕ)) (used : ℕ) (h : Holds s arena op z ls used) where
     old-is : m .old ≡ isKnown l ls
     old-is = m .decides .answer ls l (h .known) list
 
     -- nothing is deeper: the charge is all
-    pub met-done : r .deeper ≡ false → (D : Document) (P : Pass) (below : List ℕ → Step) → Tells s′ store op (r .walk) (meet D P work below l (isKnown l ls) ls used)
+    pub met-done : r .deeper ≡ false → (D : Document) (P : Pass) (below : List ℕ → Step) → Tells s′ arena op (r .walk) (meet D P work below l (isKnown l ls) ls used)
     unfolding meet enter costOf
     met-done flat D P below = rw (← old-is) (go (met-case m))
       where
-        go : MetCase s s′ store work z x (m .old) r → Tells s′ store op (r .walk) (meet D P work below l (m .old) ls used)
-        go (again old result words) = rw (old, words, result, after-finished (charge work 1 ls used)) (charge-tells s store op work 1 z ls used h)
+        go : MetCase s s′ arena work z x (m .old) r → Tells s′ arena op (r .walk) (meet D P work below l (m .old) ls used)
+        go (again old result words) = rw (old, words, result, after-finished (charge work 1 ls used)) (charge-tells s arena op work 1 z ls used h)
         go (refused old stop result words) =
             rw (old, words, result)
-            (tells-stop s store op (charged work (1 + lengthOf x) z) (charge work (1 + length l) ls used) (enter D P below l false)
-            (rw (← rows-are) (charge-tells s store op work (1 + lengthOf x) z ls used h)) stop)
+            (tells-stop s arena op (charged work (1 + lengthOf x) z) (charge work (1 + length l) ls used) (enter D P below l false)
+            (rw (← rows-are) (charge-tells s arena op work (1 + lengthOf x) z ls used h)) stop)
         go (stored old go-on result words) = absurd (false≢true (sym flat ∙ ap (λ (k : Met). k .deeper) result))
 
     -- a new list that is paid: it is known now, and its parts are walked
-    pub met-entered : r .deeper ≡ true → x .start ≡ z .known + 1 → x .start ≤ x .end
-        → Holds s′ store op (r .walk) (ls ++ l ∷ []) (used + suc (length l)) × (used + suc (length l) ≤ work)
+    pub met-entered : r .deeper ≡ true → arena .heads + arena .names < arena .links → arena .links + 4 * suc (z .known) ≤ arena .store → x .start ≡ z .known + 1 → x .start ≤ x .end
+        → Holds s′ arena op (r .walk) (ls ++ l ∷ []) (used + suc (length l)) × (used + suc (length l) ≤ work)
         × ((D : Document) (P : Pass) (below : List ℕ → Step) → meet D P work below l (isKnown l ls) ls used ≡ walkParts D P below (P .parts l) (ls ++ l ∷ []) (used + suc (length l)))
+        × ToldBelow arena s′ (x .start)
     unfolding meet enter costOf note after
-    met-entered deeper start ordered = go (met-case m)
+    met-entered deeper low spread start ordered = go (met-case m)
       where
-        go : MetCase s s′ store work z x (m .old) r → Holds s′ store op (r .walk) (ls ++ l ∷ []) (used + suc (length l)) × (used + suc (length l) ≤ work)
+        go : MetCase s s′ arena work z x (m .old) r → Holds s′ arena op (r .walk) (ls ++ l ∷ []) (used + suc (length l)) × (used + suc (length l) ≤ work)
             × ((D : Document) (P : Pass) (below : List ℕ → Step) → meet D P work below l (isKnown l ls) ls used ≡ walkParts D P below (P .parts l) (ls ++ l ∷ []) (used + suc (length l)))
+            × ToldBelow arena s′ (x .start)
         go (again old result words) = absurd (false≢true (sym (ap (λ (k : Met). k .deeper) result) ∙ deeper))
         go (refused old stop result words) = absurd (false≢true (sym (ap (λ (k : Met). k .deeper) result) ∙ deeper))
         go (stored old go-on result words) =
             let n = lengthOf x in
-            let paid = charge-paid s store op work (1 + n) z ls used h go-on in
+            let paid = charge-paid s arena op work (1 + n) z ls used h go-on in
             let size : used + (1 + n) ≡ used + suc (length l) = omega (arith, rows-are) in
             let cost : 1 + n ≡ 1 + length l = omega (arith, rows-are) in
-            let holds : Holds s store op (charged work (1 + n) z) ls (used + (1 + n)) = rw (paid .made) at (charge-tells s store op work (1 + n) z ls used h) in
-            let place : store + x .start ≡ store + z .known + 1 = omega arith in
-            let rows : Stores s (store + z .known + 1) n l = rw place at (list .rows) in
-            let end : z .known + suc n ≡ x .end = omega arith in
-            let known : Known (set s (store + z .known) n) store (x .end) (ls ++ l ∷ []) = rw end at (known-more l (h .known) rows) in
+            let holds : Holds s arena op (charged work (1 + n) z) ls (used + (1 + n)) = rw (paid .made) at (charge-tells s arena op work (1 + n) z ls used h) in
+            let known = known-more l low spread (head-is arena list) (omega arith) ordered (keeps arena (headAt arena s x) (z .known) x s) (h .known) list in
             let made : charge work (1 + length l) ls used ≡ finished ls (used + suc (length l)) = rw (← cost, paid .made, size) in
-            (rw (words, result, ← size) (record { known = known; reply = holds .reply }), omega (arith, paid .fits, rows-are), λ D P below. rw (← old-is, old, made))
+            (rw (words, result, ← size) (record { known = known .0; reply = holds .reply }), omega (arith, paid .fits, rows-are), λ D P below. rw (← old-is, old, made), rw words (known .1))

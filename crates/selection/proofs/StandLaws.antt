@@ -49,6 +49,10 @@ classed-kept {image} same c =
 pub prepared-kept : {image s s′ : List ℕ} → ((k : ℕ) → k < 3 * countAt image selections → getD s′ k 0 ≡ getD s k 0) → Prepared image s → Prepared image s′
 prepared-kept same p = record { parents = λ r h. same r (omega arith) ∙ p .parents r h; classes = classed-kept same (p .classes) }
 
+-- there is a word for each key
+pub heads-low : {image : List ℕ} {arena : Arena} → Places image arena → arena .heads + arena .names < arena .links
+heads-low r = omega (arith, r .names, r .heads, r .links)
+
 -- the words in front of the marks are those of parents and classes
 pub in-front : {image : List ℕ} {arena : Arena} → Places image arena → arena .marks ≡ 3 * countAt image selections
 in-front r = omega (arith, r .names, r .pairs, r .marks)
@@ -87,8 +91,8 @@ module _ {arena : Arena} {s s₁ s′ : List ℕ} {x : places.List} (first : Lin
           spared-second k (inl h) (λ p m l. (λ e. omega (arith, both .names .before), λ e. omega (arith, both .names .before)))
           ∙ spared-first k (inl h) (λ p m l. (λ e. omega (arith, both .names .before), λ e. omega (arith, both .names .before)));
       links = λ k h less.
-          spared-second k (inr (omega (arith, both .names .before))) (λ p m l. (λ e. omega arith, λ e. omega arith))
-          ∙ spared-first k (inr (omega (arith, both .names .before))) (λ p m l. (λ e. omega arith, λ e. omega arith));
+          spared-second k (inr (omega (arith, both .heads))) (λ p m l. (λ e. omega arith, λ e. omega arith))
+          ∙ spared-first k (inr (omega (arith, both .heads))) (λ p m l. (λ e. omega arith, λ e. omega arith));
       store = λ k h.
           spared-second k (inr (omega (arith, both .names .before, low-links))) (λ p m l. (λ e. omega (arith, low-links), λ e. omega (arith, low-links)))
           ∙ spared-first k (inr (omega (arith, both .names .before, low-links))) (λ p m l. (λ e. omega (arith, low-links), λ e. omega (arith, low-links)));
@@ -217,8 +221,8 @@ module _ {image : List ℕ} {arena : Arena} {work op : ℕ} {s : List ℕ} {z : 
       → Stands arena s x l → Stands arena s′ x l
   stands-queue o rows ordered stands =
       let r = site .regions in
-      stands-same rows stands ordered (o .long) (λ k h. o .below k (omega (arith, r .queue))) (λ k h less. o .above k (omega (arith, r .lasts, r .links)))
-      (λ k h less. o .above k (omega (arith, r .lasts, r .links, r .store)))
+      stands-same rows stands ordered (o .long) (λ k h. o .below k (omega (arith, r .queue))) (λ k h less. o .above k (omega (arith, r .lasts, r .heads, r .links)))
+      (λ k h less. o .above k (omega (arith, r .lasts, r .heads, r .links, r .store)))
 
   -- a list that is known stays
   pub stands-kept : {s′ : List ℕ} {z′ : states.Walk} {x : places.List} {l : List ℕ} → Kept image arena work op s s′ z z′ → Rows image arena work op l → Stands arena s x l → x .start ≤ x .end → x .end ≤ z .known

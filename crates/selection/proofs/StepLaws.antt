@@ -56,6 +56,7 @@ places {image} work good e =
       marks = omega (arith, n);
       queue = omega (arith, f);
       lasts = omega (arith, t);
+      heads = omega (arith, n);
       links = omega (arith, n);
       store = omega arith;
       small = omega (arith, n, f, t, few-rows good selections (omega arith), few-rows good fragments (omega arith), few-rows good sets (omega arith));
@@ -66,6 +67,15 @@ pub links-fit : {image : List ℕ} {arena : Arena} (work : ℕ) → Good image �
     → arena .store ≡ arena .links + 4 * (work + 1 + countAt image selections)
 unfolding arenaOf roomOf
 links-fit {image} work good e few = rw e (omega (arith, few, rows-all good selections (omega arith)))
+
+-- so the store begins behind nine words for each selection, four for each unit, and a few more
+pub store-is : {image : List ℕ} {arena : Arena} (work : ℕ) → Good image → arena ≡ arenaOf image work → work ≤ mostWork
+    → arena .store ≡ 9 * countAt image selections + countAt image fragments + countAt image sets + 4 * work + 5
+store-is {image} {arena} work good e few =
+    let r = places {image = image} {arena = arena} work good e in
+    let front : arena .queue ≡ 3 * countAt image selections + countAt image fragments = omega (arith, r .names, r .pairs, r .marks, r .queue) in
+    let links : arena .links ≡ arena .queue + countAt image sets + 2 * countAt image selections + 1 = omega (arith, r .lasts, r .heads, r .links) in
+    omega (arith, front, links, links-fit {image = image} {arena = arena} work good e few)
 
 -- ---- frames
 
@@ -252,8 +262,8 @@ module _ {image : List ℕ} {arena : Arena} where
         let count : x .listed - t .from + 1 ≡ x .listed + 1 - t .from = omega (arith, at .ahead) in
         let o = set-outside s (arena .store + x .listed) r in
         let inside : arena .store + t .from + (x .listed - t .from) < length s = omega (arith, list-room a, at .room) in
-        let behind : arena .queue ≤ arena .store + x .listed = omega (arith, region .lasts, region .links, region .store) in
-        let clear : arena .queue + x .queued ≤ arena .store + x .listed = omega (arith, queue-held, region .lasts, region .links, region .store) in
+        let behind : arena .queue ≤ arena .store + x .listed = omega (arith, region .lasts, region .heads, region .links, region .store) in
+        let clear : arena .queue + x .queued ≤ arena .store + x .listed = omega (arith, queue-held, region .lasts, region .heads, region .links, region .store) in
         shows-next a (rw (append-nil (queueOf t before)) (stores-kept o (at .queue) (inl clear))) (omega (arith, at .ahead))
         (rw (← count, ← place) (pushed s (arena .store + t .from) (x .listed - t .from) r inside .words fields (at .list)))
         (seen-kept region o behind _ _ (at .seen)) (marks-kept region o behind _ (at .marks)) (o .long)
@@ -266,9 +276,9 @@ module _ {image : List ℕ} {arena : Arena} where
     queue-shows {u} {seen} {s₁} a long queue list marked below =
         let room = queue-room a in
         let o = set-outside s₁ (arena .queue + x .queued) u in
-        let inside : arena .queue + x .queued < length s₁ = omega (arith, at .room, region .links, region .store) in
+        let inside : arena .queue + x .queued < length s₁ = omega (arith, at .room, region .heads, region .links, region .store) in
         let behind : arena .queue ≤ arena .queue + x .queued = omega arith in
-        let clear : arena .queue + x .queued + 1 ≤ arena .store + t .from = omega (arith, region .links, region .store) in
+        let clear : arena .queue + x .queued + 1 ≤ arena .store + t .from = omega (arith, region .heads, region .links, region .store) in
         shows-next a (pushed s₁ (arena .queue) (x .queued) u inside .words (queueOf t before) queue) (at .ahead)
         (rw (append-nil fields) (stores-kept o list (inr clear)))
         (seen-kept region o behind _ _ marked) (marks-kept region o behind _ below) (o .long ∙ long)
@@ -288,7 +298,7 @@ module _ {image : List ℕ} {arena : Arena} where
       mark-below k h =
           ⊎-elim (λ e.
           let same : arena .marks + k ≡ arena .marks + j = ap (λ (i : ℕ). arena .marks + i) (eqb-true k j e) in
-          let here : arena .marks + j < length s = omega (arith, at .room, region .queue, region .lasts, region .links, region .store) in
+          let here : arena .marks + j < length s = omega (arith, at .room, region .queue, region .lasts, region .heads, region .links, region .store) in
           rw (same, getD-set-same s (arena .marks + j) (x .number) 0 here) (omega arith))
           (λ e.
           let differ = eqb-false k j e in
@@ -300,9 +310,9 @@ module _ {image : List ℕ} {arena : Arena} where
           (record { queued = x .queued + 1; listed = x .listed; number = x .number })
       new-shows a =
           let o = set-outside s (arena .marks + j) (x .number) in
-          let here : arena .marks + j < length s = omega (arith, at .room, region .queue, region .lasts, region .links, region .store) in
+          let here : arena .marks + j < length s = omega (arith, at .room, region .queue, region .lasts, region .heads, region .links, region .store) in
           let before-queue : arena .marks + j + 1 ≤ arena .queue = omega (arith, region .queue) in
-          let before-list : arena .marks + j + 1 ≤ arena .store + t .from = omega (arith, region .queue, region .lasts, region .links, region .store) in
+          let before-list : arena .marks + j + 1 ≤ arena .store + t .from = omega (arith, region .queue, region .lasts, region .heads, region .links, region .store) in
           queue-shows a (o .long) (stores-kept o (at .queue) (inr before-queue)) (stores-kept o (at .list) (inr before-list))
           (seen-new image arena s (x .number) (marked D [] before) j (at .seen) here) mark-below
 
@@ -359,7 +369,7 @@ module _ (image : List ℕ) (arena : Arena) (r : ℕ) (s : List ℕ) (x : Expans
       let a = adds-field (documentOf image arena t) before r (field-kind (t .good) (t .sameShape) (t .sameArguments) r kind) in
       let room = list-room t before r fresh s x at a in
       let below : x .listed < 4294967295 = omega (arith, t .small) in
-      let ordered : arena .marks ≤ arena .store = omega (arith, region .queue, region .lasts, region .links, region .store) in
+      let ordered : arena .marks ≤ arena .store = omega (arith, region .queue, region .lasts, region .heads, region .links, region .store) in
       rw (← listed-further x below) (field-shows t before r fresh s x at a, framed-last (x .listed) ordered (set-outside s (arena .store + x .listed) r)))
 
   pub step-inline : {s′ : List ℕ} {x′ : Expansion} {u : ℕ} → selectionKind image r ≡ columns.inline → u ≡ selectionTarget image r
@@ -373,7 +383,7 @@ module _ (image : List ℕ) (arena : Arena) (r : ℕ) (s : List ℕ) (x : Expans
       let room = queue-room t before r fresh s x at a in
       let above : arena .marks ≤ arena .queue + x .queued = omega (arith, region .queue) in
       rw (queue-next arena x s (selectionTarget image r) room, queue-words arena x s (selectionTarget image r) room)
-      (inline-shows t before r fresh s x at a, framed-inner (x .listed) above room (omega (arith, region .links, region .store)) (set-outside s (arena .queue + x .queued) (selectionTarget image r))))
+      (inline-shows t before r fresh s x at a, framed-inner (x .listed) above room (omega (arith, region .heads, region .links, region .store)) (set-outside s (arena .queue + x .queued) (selectionTarget image r))))
 
   -- a spread whose fragment is j
   spread-next : (t : Task image arena) (before : List ℕ) → Fresh image (before ++ (r ∷ [])) → Shows image arena t before s x
@@ -412,7 +422,7 @@ module _ (image : List ℕ) (arena : Arena) (r : ℕ) (s : List ℕ) (x : Expans
           let above : arena .marks ≤ arena .queue + x .queued = omega (arith, region .queue) in
           let here : arena .marks ≤ arena .marks + j = omega arith in
           let there : arena .marks + j < arena .lasts = omega (arith, less, region .queue, region .lasts) in
-          let ordered : arena .lasts ≤ arena .store = omega (arith, region .links, region .store) in
+          let ordered : arena .lasts ≤ arena .store = omega (arith, region .heads, region .links, region .store) in
           let s₁ = set s (arena .marks + j) (x .number) in
           rw (now .0, now .1, fragment-set-is (t .good) less) (
             new-shows t before r fresh s x at j less a,

@@ -3,11 +3,10 @@
 use mathlib.Core.Path.{_≡_, refl, sym, ap, _∙_, subst}
 use mathlib.Core.Bool.{true, false}
 use mathlib.Core.List.{List, [], _∷_}
-use Prim.Native.Nat.{ℕ, zero, suc, _+_, _-_, _≤_, _<_, min}
+use Prim.Native.Nat.{ℕ, suc, _+_, _-_, _≤_, _<_, min}
 use native.Mathlib.Omega.{arith}
-use lib.ListN.{length, getD, replicate, length-replicate}
-use Rattle.lists.specs.Part.{write, Stores, Outside}
-use Rattle.lists.proofs.Parts.{write-outside, stores-written, stores-getD}
+use lib.ListN.{length, getD, replicate}
+use Rattle.lists.specs.Part.{write, Outside}
 use Rattle.merge_theory.specs.Rule.{start}
 use Rattle.merge_theory.specs.Walk.{Result, finished, conflict, out, deep, Step, after, walk, check}
 use Rattle.merge_theory.proofs.Theorems.{never-deep}
@@ -19,23 +18,16 @@ use Rattle.selection.specs.ImageDocument.{documentBy, limitOfLinks}
 use Rattle.selection.specs.Regions.{arenaOf, Places}
 use Rattle.selection.specs.Refining.{document, passOf, replyOf, mostWork, Holds, Tells, Ample, Site}
 use Rattle.selection.specs.Validating.{Within, Runs, Checkable, Validates}
+use Rattle.selection.proofs.ClearLaws.{Cleared, cleared}
 use Rattle.selection.proofs.StepLaws.{places, links-fit}
 use Rattle.selection.proofs.StandLaws.{classed-kept, in-front}
 use Rattle.selection.proofs.RefineLaws.{tells-go, tells-stop}
 
-reply-is : (s : List ℕ) (store op : ℕ) (z : states.Walk) (r : Result) → Tells s store op z r → (r ≡ deep → ⊥) → z .reply ≡ replyOf op r
-reply-is s store op z (finished ls used) h shallow = h .reply
-reply-is s store op z (conflict c a b used) h shallow = h
-reply-is s store op z (out used) h shallow = h
-reply-is s store op z deep h shallow = absurd (shallow refl)
-
-abbrev blank : ℕ → List ℕ
-blank n = replicate n 0
-
-zeros : (n i : ℕ) → getD (blank n) i 0 ≡ 0
-zeros zero i = refl
-zeros (suc n) zero = refl
-zeros (suc n) (suc i) = zeros n i
+reply-is : (s : List ℕ) (arena : Arena) (op : ℕ) (z : states.Walk) (r : Result) → Tells s arena op z r → (r ≡ deep → ⊥) → z .reply ≡ replyOf op r
+reply-is s arena op z (finished ls used) h shallow = h .reply
+reply-is s arena op z (conflict c a b used) h shallow = h
+reply-is s arena op z (out used) h shallow = h
+reply-is s arena op z deep h shallow = absurd (shallow refl)
 
 -- the second pass, where the first finished
 abbrev secondPass : List ℕ → ℕ → ℕ → Step
@@ -54,7 +46,7 @@ pub ample-start : (work : ℕ) {budget : ℕ} (operation used : ℕ) → budget 
 ample-start work operation used e = record { going = refl; paid = omega arith; few = omega arith; counted = omega arith; countable = omega arith; budget = omega (arith, e) }
 
 module _ {image : List ℕ} {arena : Arena} {work budget operation used n : ℕ} {s s₁ s₂ : List ℕ} {z₁ : states.Walk} (is-arena : arena ≡ arenaOf image budget) (is-budget : budget ≡ min work mostWork)
-    (is-count : n ≡ countAt image fragments) (cleared : s₁ ≡ write s (arena .marks) (blank (min n (length s - arena .marks))))
+    (is-count : n ≡ countAt image fragments) (is-clear : s₁ ≡ write s (arena .marks) (replicate (min n (length s - arena .marks)) 0))
     (long₁ : length s₁ ≡ length s) (first : Runs image arena budget operation s₁ s₂ (atStart operation used) true z₁) where
   module _ (can : Checkable image work operation used s) where
     all-work : budget ≡ work
@@ -66,25 +58,11 @@ module _ {image : List ℕ} {arena : Arena} {work budget operation used n : ℕ}
     room : arena .store + budget + 1 + countAt image selections ≤ length s
     room = rw (is-arena, all-work) (can .room)
 
-    words : ℕ
-    words = min n (length s - arena .marks)
+    marks-clear : Cleared (arena .marks) n s s₁
+    marks-clear = cleared is-clear (omega (arith, is-count, room, regions .queue, regions .lasts, regions .heads, regions .links, regions .store))
 
-    all-marks : min n (length s - arena .marks) ≡ countAt image fragments
-    all-marks = omega (arith, is-count, room, regions .queue, regions .lasts, regions .links, regions .store)
-
-    size : length (blank (min n (length s - arena .marks))) ≡ countAt image fragments
-    size = length-replicate (min n (length s - arena .marks)) 0 ∙ all-marks
-
-    fits : arena .marks + length (blank (min n (length s - arena .marks))) ≤ length s
-    fits = omega (arith, size, room, regions .queue, regions .lasts, regions .links, regions .store)
-
-    outside : Outside (arena .marks) (length (blank (min n (length s - arena .marks)))) s s₁
-    outside = rw cleared (write-outside s (arena .marks) (blank (min n (length s - arena .marks))) fits)
-
-    mark-zero : (j : ℕ) → j < countAt image fragments → getD s₁ (arena .marks + j) 0 ≡ 0
-    mark-zero j h =
-        let there : Stores s₁ (arena .marks) (length (blank (min n (length s - arena .marks)))) (blank (min n (length s - arena .marks))) = rw cleared (stores-written s (arena .marks) (blank (min n (length s - arena .marks))) fits) in
-        stores-getD there j (omega (arith, size)) ∙ zeros (min n (length s - arena .marks)) j
+    outside : Outside (arena .marks) n s s₁
+    outside = marks-clear .outside
 
     site : Site image arena budget operation s₁ (atStart operation used)
     unfolding documentBy
@@ -96,7 +74,7 @@ module _ {image : List ℕ} {arena : Arena} {work budget operation used n : ℕ}
       parents = λ r h. outside .below r (omega (arith, in-front regions)) ∙ can .prepared .parents r h;
       classes = classed-kept (λ k h. outside .below k (omega (arith, in-front regions))) (can .prepared .classes);
       room = rw long₁ room;
-      marks = λ j h. rw (mark-zero j h) (omega arith);
+      marks = λ j h. rw (marks-clear .empty j (omega (arith, is-count))) (omega arith);
       within = omega (arith, all-work, can .within);
     }
 
@@ -106,10 +84,10 @@ module _ {image : List ℕ} {arena : Arena} {work budget operation used n : ℕ}
         record {
           long = f .long ∙ long₁;
           below = λ k h. f .below k h ∙ outside .below k h;
-          beyond = λ k h. f .beyond k h ∙ outside .above k (omega (arith, size, regions .queue, regions .lasts, regions .links, regions .store));
+          beyond = λ k h. f .beyond k h ∙ outside .above k (omega (arith, is-count, regions .queue, regions .lasts, regions .heads, regions .links, regions .store));
         }
 
-    shaped : Tells s₂ (arena .store) operation z₁ (walk (document image) (passOf image true) budget (suc limitOfLinks) (operation ∷ []) [] used)
+    shaped : Tells s₂ arena operation z₁ (walk (document image) (passOf image true) budget (suc limitOfLinks) (operation ∷ []) [] used)
     shaped = first .tells used site refl (can .row) refl
 
     whole : after (walk (document image) (passOf image true) budget (suc limitOfLinks) (operation ∷ []) [] used) (secondPass image budget operation) ≡ check (document image) work used operation
@@ -126,7 +104,7 @@ module _ {image : List ℕ} {arena : Arena} {work budget operation used n : ℕ}
   ends-early stop = record {
     long = first .long ∙ long₁;
     replies = λ can.
-        reply-is s₂ (arena .store) operation z₁ _ (tells-stop s₂ (arena .store) operation z₁ _ (secondPass image budget operation) (shaped can) stop) (shallow can) ∙ ap (replyOf operation) (whole can);
+        reply-is s₂ arena operation z₁ _ (tells-stop s₂ arena operation z₁ _ (secondPass image budget operation) (shaped can) stop) (shallow can) ∙ ap (replyOf operation) (whole can);
     frame = λ can. as-promised can (within₂ can);
   }
 
@@ -135,8 +113,8 @@ module _ {image : List ℕ} {arena : Arena} {work budget operation used n : ℕ}
   ends go {s₃} {z₂} next = record {
     long = next .long ∙ first .long ∙ long₁;
     replies = λ can.
-        reply-is s₃ (arena .store) operation z₂ _
-        (tells-go s₂ s₃ (arena .store) operation z₁ z₂ _ (secondPass image budget operation) (shaped can) go (λ ls units h. parented can units h)) (shallow can) ∙ ap (replyOf operation) (whole can);
+        reply-is s₃ arena operation z₂ _
+        (tells-go s₂ s₃ arena operation z₁ z₂ _ (secondPass image budget operation) (shaped can) go (λ ls units h. parented can units h)) (shallow can) ∙ ap (replyOf operation) (whole can);
     frame = λ can.
         let w = within₂ can in
         let f = next .frame (site₂ can) (sym (first .same)) (can .row) in
@@ -146,8 +124,8 @@ module _ {image : List ℕ} {arena : Arena} {work budget operation used n : ℕ}
       site₂ : (can : Checkable image work operation used s) → Site image arena budget (z₁ .reply .operation) s₂ z₁
       site₂ can = subst (λ (op : ℕ). Site image arena budget op s₂ z₁) (sym (first .same)) (first .site (site can) refl (can .row) go)
 
-      parented : (can : Checkable image work operation used s) {ls : List (List ℕ)} (units : ℕ) → Holds s₂ (arena .store) operation z₁ ls units
-          → Tells s₃ (arena .store) operation z₂ (walk (document image) (passOf image false) budget (suc limitOfLinks) (operation ∷ []) [] units)
+      parented : (can : Checkable image work operation used s) {ls : List (List ℕ)} (units : ℕ) → Holds s₂ arena operation z₁ ls units
+          → Tells s₃ arena operation z₂ (walk (document image) (passOf image false) budget (suc limitOfLinks) (operation ∷ []) [] units)
       parented can units h =
-          subst (λ (op : ℕ). Tells s₃ (arena .store) op z₂ (walk (document image) (passOf image false) budget (suc limitOfLinks) (operation ∷ []) [] units)) (first .same)
+          subst (λ (op : ℕ). Tells s₃ arena op z₂ (walk (document image) (passOf image false) budget (suc limitOfLinks) (operation ∷ []) [] units)) (first .same)
           (next .tells units (site₂ can) (sym (first .same)) (can .row) (h .reply ∙ ap (λ op. replyOf op (finished [] units)) (sym (first .same))))

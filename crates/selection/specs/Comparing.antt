@@ -44,8 +44,8 @@ pub record ComparesSegment (image s : List ℕ) (arena : Arena) (z : states.Walk
   pub known : r .known ≡ z .known
   pub operation : r .reply .operation ≡ z .reply .operation
   pub tells : (l : List ℕ) → Grounded (document image) image s (arena .store) x l → Follows image s arena g x → x .start ≤ from
-      → (from < x .end → member (document image) g (rowIn s (arena .store) from) ≡ true) → (ls : List (List ℕ)) (used : ℕ) → Holds s (arena .store) (z .reply .operation) z ls used
-      → Tells s (arena .store) (z .reply .operation) r (against (passOf image isShape .clash) a (filter (member (document image) g) (onward x l from)) ls used)
+      → (from < x .end → member (document image) g (rowIn s (arena .store) from) ≡ true) → (ls : List (List ℕ)) (used : ℕ) → Holds s arena (z .reply .operation) z ls used
+      → Tells s arena (z .reply .operation) r (against (passOf image isShape .clash) a (filter (member (document image) g) (onward x l from)) ls used)
 
 -- the first field of a part against each other
 pub record ComparesPart (image s : List ℕ) (arena : Arena) (z : states.Walk) (part : Part) (isShape : Bool) (r : states.Walk) : Type 0 where
@@ -53,8 +53,8 @@ pub record ComparesPart (image s : List ℕ) (arena : Arena) (z : states.Walk) (
   pub known : r .known ≡ z .known
   pub operation : r .reply .operation ≡ z .reply .operation
   pub tells : (l rows : List ℕ) → Grounded (document image) image s (arena .store) (part .list) l → Threaded image s arena (part .list) → PartAt (document image) s (arena .store) l part rows
-      → (ls : List (List ℕ)) (used : ℕ) → Holds s (arena .store) (z .reply .operation) z ls used
-      → Tells s (arena .store) (z .reply .operation) r (compareFirst (passOf image isShape .clash) rows ls used)
+      → (ls : List (List ℕ)) (used : ℕ) → Holds s arena (z .reply .operation) z ls used
+      → Tells s arena (z .reply .operation) r (compareFirst (passOf image isShape .clash) rows ls used)
 
 -- ---- queueing
 

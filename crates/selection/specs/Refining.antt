@@ -1,6 +1,6 @@
 -- How the code of the walk is held to the merge theory's walk. Assumes nothing.
 --     document image         the image as the merge theory's document
---     Tells s store op z r   the words and the state z say what the result r of a walk is; nothing is asked of `deep`
+--     Tells s arena op z r   the words and the state z say what the result r of a walk is; nothing is asked of `deep`
 --     Ample work more z      what keeps the state's numbers small, whatever the image is
 --     Site ..                what a step needs of the image, the words and the state
 --     Rows ..                what is known of the rows of a list
@@ -11,7 +11,7 @@ use mathlib.Core.Bool.{Bool, true, false, cond}
 use mathlib.Core.List.{List, [], _∷_, _++_}
 use Prim.Native.Nat.{ℕ, zero, suc, _+_, _-_, _*_, _≤_, _<_}
 use lib.Dec.{eqb, leb}
-use lib.ListN.{length, getD, set}
+use lib.ListN.{length, getD}
 use Rattle.lists.specs.Part.{Stores}
 use Rattle.merge_theory.specs.Lists.{Every}
 use Rattle.merge_theory.specs.Document.{Document, numberOf, FieldAt, Sound}
@@ -33,7 +33,7 @@ use Rattle.selection.specs.ImageDocument.{documentBy}
 pub use Rattle.selection.specs.Regions.{mostWork}
 use Rattle.selection.specs.Regions.{Places}
 use Rattle.selection.specs.Expanding.{MarksBelow, Once, StartSet}
-use Rattle.selection.specs.KnownLists.{Known, AtHand, Decides}
+use Rattle.selection.specs.KnownLists.{Known, Decides, headAt, keptWords}
 use Rattle.selection.specs.Classes.{Classed}
 use Rattle.selection.specs.Standing.{Stands}
 use Rattle.selection.specs.Grouping.{PartAt}
@@ -53,15 +53,15 @@ replyOf op (conflict c a b used) = record { kind = numberOf c; operation = op; a
 replyOf op (out used) = record { kind = 17; operation = op; a = 0; b = 0; used = used }
 replyOf op deep = record { kind = 0; operation = op; a = 0; b = 0; used = 0 }
 
-pub record Holds (s : List ℕ) (store op : ℕ) (z : states.Walk) (ls : List (List ℕ)) (used : ℕ) : Type 0 where
-  pub known : Known s store (z .known) ls
+pub record Holds (s : List ℕ) (arena : Arena) (op : ℕ) (z : states.Walk) (ls : List (List ℕ)) (used : ℕ) : Type 0 where
+  pub known : Known arena s (z .known) ls
   pub reply : z .reply ≡ replyOf op (finished ls used)
 
-abbrev pub Tells : List ℕ → ℕ → ℕ → states.Walk → Result → Type 0
-Tells s store op z (finished ls used) = Holds s store op z ls used
-Tells s store op z (conflict c a b used) = z .reply ≡ replyOf op (conflict c a b used)
-Tells s store op z (out used) = z .reply ≡ replyOf op (out used)
-Tells s store op z deep = Unit {0}
+abbrev pub Tells : List ℕ → Arena → ℕ → states.Walk → Result → Type 0
+Tells s arena op z (finished ls used) = Holds s arena op z ls used
+Tells s arena op z (conflict c a b used) = z .reply ≡ replyOf op (conflict c a b used)
+Tells s arena op z (out used) = z .reply ≡ replyOf op (out used)
+Tells s arena op z deep = Unit {0}
 
 -- ---- a charge, and a list that is met
 
@@ -93,15 +93,15 @@ unfoldable pub metList : ℕ → states.Walk → places.List → Bool → Met
 metList work z x old =
     cond old (record { walk = charged work 1 z; list = x; deeper = false }) (entered x (charged work (1 + lengthOf x) z))
 
-unfoldable pub metWords : ℕ → ℕ → states.Walk → places.List → Bool → List ℕ → List ℕ
-metWords store work z x old s =
-    cond old s (cond (eqb (charged work (1 + lengthOf x) z .reply .kind) 0) (set s (store + z .known) (lengthOf x)) s)
+unfoldable pub metWords : Arena → ℕ → states.Walk → places.List → Bool → List ℕ → List ℕ
+metWords arena work z x old s =
+    cond old s (cond (eqb (charged work (1 + lengthOf x) z .reply .kind) 0) (keptWords arena (headAt arena s x) (z .known) x s) s)
 
-pub record MeetsList (s s′ : List ℕ) (store work : ℕ) (z : states.Walk) (x : places.List) (r : Met) : Type 0 where
+pub record MeetsList (s s′ : List ℕ) (arena : Arena) (work : ℕ) (z : states.Walk) (x : places.List) (r : Met) : Type 0 where
   pub old : Bool
-  pub decides : Decides s store (z .known) x old
+  pub decides : Decides arena s (z .known) x old
   pub result : r ≡ metList work z x old
-  pub words : s′ ≡ metWords store work z x old s
+  pub words : s′ ≡ metWords arena work z x old s
 
 -- ---- whatever the image is
 
@@ -151,7 +151,7 @@ module _ (image : List ℕ) (arena : Arena) (work op : ℕ) where
     pub grows : z .known ≤ z′ .known
 
   pub record Refines (step : Step) (s s′ : List ℕ) (z z′ : states.Walk) : Type 0 where
-    pub tells : (ls : List (List ℕ)) (used : ℕ) → Holds s (arena .store) op z ls used → Tells s′ (arena .store) op z′ (step ls used)
+    pub tells : (ls : List (List ℕ)) (used : ℕ) → Holds s arena op z ls used → Tells s′ arena op z′ (step ls used)
     pub site : z′ .reply .kind ≡ 0 → Site s′ z′
     pub kept : Kept s s′ z z′
 
@@ -178,9 +178,9 @@ module _ (image : List ℕ) (arena : Arena) (work op : ℕ) where
     pub stored : m .list .end ≤ m .walk .known
     pub site : Site s′ (m .walk)
     pub kept : Kept s s′ z (m .walk)
-    pub goes : (ls : List (List ℕ)) (used : ℕ) → Holds s (arena .store) op z ls used
-        → Holds s′ (arena .store) op (m .walk) (ls ++ list ∷ []) (used + suc (length list))
-    pub same : (levels : ℕ) (ls : List (List ℕ)) (used : ℕ) → Holds s (arena .store) op z ls used
+    pub goes : (ls : List (List ℕ)) (used : ℕ) → Holds s arena op z ls used
+        → Holds s′ arena op (m .walk) (ls ++ list ∷ []) (used + suc (length list))
+    pub same : (levels : ℕ) (ls : List (List ℕ)) (used : ℕ) → Holds s arena op z ls used
         → step levels ls used ≡ walkList P levels list (ls ++ list ∷ []) (used + suc (length list))
 
   -- what has been met: the step is done, or a list was entered

@@ -19,15 +19,17 @@ unfoldable pub roomOf : List ℕ → ℕ → ℕ
 roomOf image work = min work mostWork + 1 + rowsAtMost image selections
 
 -- the parents from 0 on, a word for each selection, and so the classes of names and of pairs; then a mark for each fragment, a
--- word of queue for each set, the last place of each class, four words of links for each place of the store, and the store
+-- word of queue for each set, the last place of each class, the last known list of each key, four words of links for each place of
+-- the store, and the store
 unfoldable pub arenaOf : List ℕ → ℕ → Arena
 arenaOf image work =
     let rows = rowsAtMost image selections in
     let marks = rows + rows + rows in
     let queue = marks + rowsAtMost image fragments in
     let lasts = queue + rowsAtMost image sets in
-    let links = lasts + rows in
-    record { names = rows; pairs = rows + rows; marks = marks; queue = queue; lasts = lasts; links = links; store = links + 4 * roomOf image work }
+    let heads = lasts + rows in
+    let links = heads + rows + 1 in
+    record { names = rows; pairs = rows + rows; marks = marks; queue = queue; lasts = lasts; heads = heads; links = links; store = links + 4 * roomOf image work }
 
 -- where the regions of a good image begin: each behind the one before
 pub record Places (image : List ℕ) (arena : Arena) : Type 0 where
@@ -36,6 +38,7 @@ pub record Places (image : List ℕ) (arena : Arena) : Type 0 where
   pub marks : arena .marks ≡ arena .pairs + countAt image selections
   pub queue : arena .queue ≡ arena .marks + countAt image fragments
   pub lasts : arena .lasts ≡ arena .queue + countAt image sets
-  pub links : arena .links ≡ arena .lasts + countAt image selections
+  pub heads : arena .heads ≡ arena .lasts + countAt image selections
+  pub links : arena .links ≡ arena .heads + countAt image selections + 1
   pub store : arena .links ≤ arena .store
   pub small : arena .links ≤ 4294967293

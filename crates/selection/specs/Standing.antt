@@ -25,12 +25,13 @@ pub record Stands (arena : Arena) (s : List ℕ) (x : places.List) (l : List ℕ
 pub record LinkFrame (arena : Arena) (from : ℕ) (s s′ : List ℕ) : Type 0 where
   pub long : length s′ ≡ length s
   pub front : (k : ℕ) → k < arena .lasts → getD s′ k 0 ≡ getD s k 0
-  pub links : (k : ℕ) → arena .links ≤ k → k < arena .links + 4 * from → getD s′ k 0 ≡ getD s k 0
+  pub links : (k : ℕ) → arena .heads ≤ k → k < arena .links + 4 * from → getD s′ k 0 ≡ getD s k 0
   pub store : (k : ℕ) → arena .store ≤ k → getD s′ k 0 ≡ getD s k 0
 
 pub record LinkableBoth (arena : Arena) (n : ℕ) (s : List ℕ) (x : places.List) : Type 0 where
   pub names : Linkable s n (namesChain arena) x
   pub pairs : Linkable s n (pairsChain arena) x
+  pub heads : arena .lasts + n ≤ arena .heads
   pub small : arena .links ≤ 4294967293
 
 -- a list is linked

@@ -47,7 +47,7 @@ pub record Runs (image : List ℕ) (arena : Arena) (work operation : ℕ) (s s�
   pub frame : Site image arena work (z .reply .operation) s z → operation ≡ z .reply .operation → operation < countAt image operations → Within image arena work s s′
   pub tells : (used : ℕ) → Site image arena work (z .reply .operation) s z → operation ≡ z .reply .operation → operation < countAt image operations
       → z .reply ≡ replyOf (z .reply .operation) (finished [] used)
-      → Tells s′ (arena .store) (z .reply .operation) z′ (walk (document image) (passOf image isShape) work (suc limitOfLinks) (operation ∷ []) [] used)
+      → Tells s′ arena (z .reply .operation) z′ (walk (document image) (passOf image isShape) work (suc limitOfLinks) (operation ∷ []) [] used)
 
 -- what the check of an operation may rely on, where its reply is said
 pub record Checkable (image : List ℕ) (work operation used : ℕ) (s : List ℕ) : Type 0 where

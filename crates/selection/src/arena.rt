@@ -14,14 +14,15 @@ ghost use Rattle.selection.specs.Regions.{rowsAtMost, arenaOf};
 pub const MOST_WORK: u32 = 1000000;
 
 // Where each region begins. The parent type of each selection's set stands from word 0 on; then, for each selection, the class of
-// its name, and that of its name and parent; the mark of each fragment; the queue of sets; the last place of each class; four
-// words of links for each place of the store; and the store of lists.
+// its name, and that of its name and parent; the mark of each fragment; the queue of sets; the last place of each class; the last
+// known list of each key; four words of links for each place of the store; and the store of lists.
 pub struct Arena {
     pub names: u32,
     pub pairs: u32,
     pub marks: u32,
     pub queue: u32,
     pub lasts: u32,
+    pub heads: u32,
     pub links: u32,
     pub store: u32,
 }
@@ -64,7 +65,8 @@ pub fn arena_of(image: &[u32], work: u32) -> Arena
     let marks = pairs + rows;
     let queue = marks + rows_at_most(image, FRAGMENTS);
     let lasts = queue + rows_at_most(image, SETS);
-    let links = lasts + rows;
+    let heads = lasts + rows;
+    let links = heads + rows + 1;
     let room = least(work, MOST_WORK) + 1 + rows;
     let store = links + 4 * room;
     Arena {
@@ -73,6 +75,7 @@ pub fn arena_of(image: &[u32], work: u32) -> Arena
         marks,
         queue,
         lasts,
+        heads,
         links,
         store,
     }

@@ -1,14 +1,18 @@
-// The store of the lists that this pass has met: each is its length and then its rows. The list at hand stands behind them.
+// The store of the lists that this pass has met: each is its length and then its rows, and lists of one key are linked, from the
+// last to the first. The list at hand stands behind them.
 // Assumes nothing of the words: what is found speaks of any lists that stand there.
 use crate::arena::Arena;
 use crate::arena::List;
+use crate::arena::in_links;
 use crate::arena::in_region;
+use lists::clear;
 use lists::get;
 use lists::put;
 ghost use mathlib.Core.Path.{_≡_};
-ghost use Prim.Native.Nat.{_+_, _-_, _<_, _^_};
-ghost use lib.ListN.{set};
-ghost use Rattle.selection.specs.KnownLists.{Decides, sameRows, isListAt};
+ghost use Prim.Native.Nat.{_+_, _-_, _≤_, _<_, _^_, min};
+ghost use lib.ListN.{length, replicate};
+ghost use Rattle.lists.specs.Part.{write};
+ghost use Rattle.selection.specs.KnownLists.{bucket, headAt, Searches, sameRows, isListAt, keptWords};
 
 // How many fields a list has.
 pub fn list_length(list: List) -> u32
@@ -19,6 +23,38 @@ pub fn list_length(list: List) -> u32
     } else {
         0
     }
+}
+
+// A number of at most `rows` for a sum of two rows.
+fn bucket(rows: u32, sum: usize) -> usize
+    ensures { λ r. ⌜ (r ≡ bucket rows sum) × (r ≤ rows) ⌝ }
+{
+    let most = rows as usize;
+    if sum <= most {
+        return sum;
+    }
+    let less = sum - most;
+    if less <= most { less } else { most }
+}
+
+// Where the last known list is told that has the key of the list at hand: one number for lists of one first and one last row.
+pub fn head_at(s: &[u32], arena: Arena, list: List) -> usize
+    ensures { λ r. ⌜ r ≡ headAt arena (now (s .entry)) list ⌝ }
+{
+    let heads = arena.heads as usize;
+    if list.start < list.end {
+        let first = get(s, in_region(arena.store, list.start)) as usize;
+        let last = get(s, in_region(arena.store, list.end - 1)) as usize;
+        return heads + bucket(arena.names, first + last);
+    }
+    heads + bucket(arena.names, 0)
+}
+
+// Nothing is known: no key has a list.
+pub fn forget(s: &mut [u32], arena: Arena)
+    ensures { λ _. ⌜ now (s .exit) ≡ write (now (s .entry)) (arena .heads) (replicate (min (arena .names + 1) (length (now (s .entry)) - arena .heads)) 0) ⌝ }
+{
+    clear(s, arena.heads as usize, (arena.names as usize) + 1);
 }
 
 // Whether n words at one place are those at another.
@@ -48,28 +84,35 @@ fn is_list_at(s: &[u32], at: usize, rows: usize, n: u32) -> bool
     same_rows(s, rows, at + 1, n)
 }
 
-// Whether the list at hand is among the known lists, which take so many words of the store.
-pub fn is_known(s: &[u32], arena: Arena, known: u32, list: List) -> bool
-    ensures { λ r. ⌜ Decides (now (s .entry)) (arena .store) known list r ⌝ }
+// Whether the list at hand is among the known lists, `head` being where the last one of its key is told. Lists of one key are
+// looked at from the last to the first; a link that does not lead back ends the search.
+pub fn is_known(s: &[u32], arena: Arena, head: usize, list: List) -> bool
+    ensures { λ r. ⌜ Searches arena (now (s .entry)) head list r ⌝ }
 {
     let n = list_length(list);
     let rows = in_region(arena.store, list.start);
-    let start = arena.store as usize;
-    let end = known as usize;
-    let mut i: usize = 0;
-    while i < end {
-        if is_list_at(s, start + i, rows, n) {
+    let mut next = get(s, head);
+    while next != 0 {
+        let place = next - 1;
+        if is_list_at(s, in_region(arena.store, place), rows, n) {
             return true;
         }
-        i += 1 + (get(s, start + i) as usize);
+        let before = get(s, in_links(arena, place, 0));
+        if next <= before {
+            return false;
+        }
+        next = before;
     }
     false
 }
 
-// The list at hand is known from now on: its length is put before it. Gives the words that known lists take then.
-pub fn keep(s: &mut [u32], arena: Arena, known: u32, list: List) -> u32
-    ensures { λ r. ⌜ (r ≡ list .end) × (now (s .exit) ≡ set (now (s .entry)) (arena .store + known) (list .end - list .start)) ⌝ }
+// The list at hand is known from now on, as the last of its key. Gives the words that known lists take then.
+pub fn keep(s: &mut [u32], arena: Arena, head: usize, known: u32, list: List) -> u32
+    ensures { λ r. ⌜ (r ≡ list .end) × (now (s .exit) ≡ keptWords arena head known list (now (s .entry))) ⌝ }
 {
+    let before = get(&s[..], head);
+    put(s, in_links(arena, known, 0), before);
+    put(s, head, list.start);
     put(s, in_region(arena.store, known), list_length(list));
     list.end
 }

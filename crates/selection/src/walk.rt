@@ -18,6 +18,8 @@ use crate::groups::group_part;
 use crate::groups::next_subgroup;
 use crate::groups::row_at;
 use crate::groups::subgroup_part;
+use crate::known::forget;
+use crate::known::head_at;
 use crate::known::is_known;
 use crate::known::keep;
 use crate::known::list_length;
@@ -69,9 +71,10 @@ fn charge(walk: Walk, work: u32, rows: u32) -> Walk
 
 // The list at hand is met: charged, and kept where it is new and paid.
 fn meet_list(s: &mut [u32], arena: Arena, work: u32, walk: Walk, list: List) -> Met
-    ensures { λ r. ⌜ MeetsList (now (s .entry)) (now (s .exit)) (arena .store) work walk list r ⌝ }
+    ensures { λ r. ⌜ MeetsList (now (s .entry)) (now (s .exit)) arena work walk list r ⌝ }
 {
-    if is_known(&s[..], arena, walk.known, list) {
+    let head = head_at(&s[..], arena, list);
+    if is_known(&s[..], arena, head, list) {
         let paid = charge(walk, work, 0);
         return Met {
             walk: paid,
@@ -88,7 +91,7 @@ fn meet_list(s: &mut [u32], arena: Arena, work: u32, walk: Walk, list: List) -> 
             deeper: false,
         };
     }
-    let known = keep(s, arena, walk.known, list);
+    let known = keep(s, arena, head, walk.known, list);
     paid.known = known;
     Met {
         walk: paid,
@@ -418,7 +421,7 @@ fn same_for_common_parents_by_name(
     next
 }
 
-// The operation's own set is met, with nothing known.
+// The operation's own set is met, with no words of known lists.
 fn meet_operation(
     image: &[u32],
     s: &mut [u32],
@@ -447,6 +450,7 @@ fn shape_pass(
     requires { ⌜ Ample work 0 walk ⌝ }
     ensures { λ r. ⌜ Runs (now (image .entry)) arena work operation (now (s .entry)) (now (s .exit)) walk true r ⌝ }
 {
+    forget(s, arena);
     let met = meet_operation(image, s, arena, work, walk, operation);
     let next = met.walk;
     if met.deeper {
@@ -466,6 +470,7 @@ fn parent_pass(
     requires { ⌜ Ample work 0 walk ⌝ }
     ensures { λ r. ⌜ Runs (now (image .entry)) arena work operation (now (s .entry)) (now (s .exit)) walk false r ⌝ }
 {
+    forget(s, arena);
     let met = meet_operation(image, s, arena, work, walk, operation);
     let next = met.walk;
     if met.deeper {

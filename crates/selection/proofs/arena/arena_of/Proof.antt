@@ -18,8 +18,9 @@ regions : (image : List ℕ) (work : ℕ) {n f t b : ℕ} → n ≡ rowsAtMost i
       marks = n + n + n;
       queue = n + n + n + f;
       lasts = n + n + n + f + t;
-      links = n + n + n + f + t + n;
-      store = n + n + n + f + t + n + 4 * (b + 1 + n);
+      heads = n + n + n + f + t + n;
+      links = n + n + n + f + t + n + n + 1;
+      store = n + n + n + f + t + n + n + 1 + 4 * (b + 1 + n);
     }) (arenaOf image work)
 unfolding arenaOf roomOf
 regions image work n f t b = rw (n, f, t, b)
@@ -38,6 +39,8 @@ arena-of-spec =
     (λ c κs. search needs)
     (λ c. search needs)
     (λ c κs. search needs)
+    (λ c. search needs)
+    (λ c. search needs)
     (λ c. search needs)
     (λ c. search needs)
     (λ c κs. search needs)
