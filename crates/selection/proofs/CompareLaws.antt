@@ -106,7 +106,7 @@ module _ {image s : List ℕ} {arena : Arena} {g : Segment} {isShape : Bool} {a 
 
 -- ---- a part: the front segment behind its first field, then the back segment
 
-pub part-head : {image s : List ℕ} {store : ℕ} {l rows : List ℕ} {part : Part} → Grounded (document image) image s store (part .list) l → PartAt (document image) s store l part rows
+pub part-head : {image s : List ℕ} {store : ℕ} {isShape : Bool} {l rows : List ℕ} {part : Part} → Grounded (document image) image s store (part .list) l → PartAt (document image) isShape s store l part rows
     → rows ≡ rowIn s store (part .first) ∷ (filter (member (document image) (part .front)) (onward (part .list) l (part .first + 1)) ++ filter (member (document image) (part .back)) (onward (part .list) l (part .next)))
 unfolding partRows
 part-head {image} {l = l} {part = part} G p =
@@ -115,10 +115,10 @@ part-head {image} {l = l} {part = part} G p =
 
 -- no field behind the first of the front segment, and none of the back segment
 pub alone-at : {image s : List ℕ} {arena : Arena} {part : Part} {second : ℕ} → second ≡ followed s arena (part .front .kind) (part .first) (part .list .end) → part .list .end ≤ second → part .list .end ≤ part .next
-    → (l rows : List ℕ) → Grounded (document image) image s (arena .store) (part .list) l → Threaded image s arena (part .list) → PartAt (document image) s (arena .store) l part rows
+    → (isShape : Bool) (l rows : List ℕ) → Grounded (document image) image s (arena .store) (part .list) l → Threaded image s arena isShape (part .list) → PartAt (document image) isShape s (arena .store) l part rows
     → rows ≡ rowIn s (arena .store) (part .first) ∷ []
 unfolding filter
-alone-at {image} {s} {arena} {part} {second} is over past l rows G t p =
+alone-at {image} {s} {arena} {part} {second} is over past isShape l rows G t p =
     let here : belongs image s (part .front) (rowIn s (arena .store) (part .first)) ≡ true = belongs-is G (part .front) (part .first) (p .from) (p .below) ∙ p .heads in
     let F = follows t (document image) (G .objects) (part .front) (p .front-proper) in
     let found = member-found G (part .front) (part .first + 1) (omega (arith, p .from)) (is ∙ F (part .first) (p .from) (p .below) here) in
@@ -127,7 +127,7 @@ alone-at {image} {s} {arena} {part} {second} is over past l rows G t p =
 module _ {image s : List ℕ} {arena : Arena} {z z₁ : states.Walk} {part : Part} {isShape : Bool} {a : ℕ} (row : a ≡ rowIn s (arena .store) (part .first))
     {second : ℕ} (second-is : second ≡ followed s arena (part .front .kind) (part .first) (part .list .end))
     (front : ComparesSegment image s arena z (part .list) (part .front) isShape a second z₁) where
-  module _ (l rows : List ℕ) (G : Grounded (document image) image s (arena .store) (part .list) l) (t : Threaded image s arena (part .list)) (p : PartAt (document image) s (arena .store) l part rows) where
+  module _ (l rows : List ℕ) (G : Grounded (document image) image s (arena .store) (part .list) l) (t : Threaded image s arena isShape (part .list)) (p : PartAt (document image) isShape s (arena .store) l part rows) where
     front-follows : Follows image s arena (part .front) (part .list)
     front-follows = follows t (document image) (G .objects) (part .front) (p .front-proper)
 
@@ -148,7 +148,7 @@ module _ {image s : List ℕ} {arena : Arena} {z z₁ : states.Walk} {part : Par
     front-tells ls used h = rw (found-second .same) (front .tells l G front-follows low-second (found-second .passes) ls used h)
 
   -- the two segments in order, from the first field on
-  in-order : (l rows : List ℕ) → Grounded (document image) image s (arena .store) (part .list) l → PartAt (document image) s (arena .store) l part rows → (ls : List (List ℕ)) (used : ℕ)
+  in-order : (l rows : List ℕ) → Grounded (document image) image s (arena .store) (part .list) l → PartAt (document image) isShape s (arena .store) l part rows → (ls : List (List ℕ)) (used : ℕ)
       → compareFirst (passOf image isShape .clash) rows ls used
       ≡ after (against (passOf image isShape .clash) a (filter (member (document image) (part .front)) (onward (part .list) l (part .first + 1))) ls used)
       (against (passOf image isShape .clash) a (filter (member (document image) (part .back)) (onward (part .list) l (part .next))))

@@ -66,7 +66,7 @@ module _ (image s : List ℕ) where
 
 -- ---- where the list is linked
 
-module _ {image s : List ℕ} {arena : Arena} {x : places.List} (t : Threaded image s arena x) where
+module _ {image s : List ℕ} {arena : Arena} {isShape : Bool} {x : places.List} (t : Threaded image s arena isShape x) where
   -- the columns of the segments' links
   all-column : columnOf everyParent ≡ 0
   unfolding columnOf
@@ -87,33 +87,33 @@ module _ {image s : List ℕ} {arena : Arena} {x : places.List} (t : Threaded im
       let ahead = seek-ge (λ q. belongs image s (nameSegment image s (arena .store) p) (rowIn s (arena .store) q)) (p + 1) (x .end) in
       sym (follow-on s arena everyParent p (x .end) (sym is) (omega arith))
 
-  next-of-pair : (kind p : ℕ) → columnOf kind ≡ 2 → x .start ≤ p → p < x .end
+  next-of-pair : isShape ≡ false → (kind p : ℕ) → columnOf kind ≡ 2 → x .start ≤ p → p < x .end
       → followed s arena kind p (x .end) ≡ memberPlace image s (arena .store) (pairSegment image s (arena .store) p) (p + 1) (x .end)
-  next-of-pair kind p column low less =
-      let is = ap (linkAt s arena p) column ∙ t .next-pair p low less in
+  next-of-pair by-pairs kind p column low less =
+      let is = ap (linkAt s arena p) column ∙ t .next-pair by-pairs p low less in
       let ahead = seek-ge (λ q. belongs image s (pairSegment image s (arena .store) p) (rowIn s (arena .store) q)) (p + 1) (x .end) in
       sym (follow-on s arena kind p (x .end) (sym is) (omega arith))
 
   -- from a field of a segment the links lead to the segment's next
-  pub follows : (D : Document) → ((k : ℕ) → eqb (typeKind image k) objectType ≡ D .isObject k) → (g : Segment) → Proper D g → Follows image s arena g x
+  pub follows : (D : Document) → ((k : ℕ) → eqb (typeKind image k) objectType ≡ D .isObject k) → (g : Segment) → Proper D isShape g → Follows image s arena g x
   follows D objects g (of-all name) p low less here =
       let named : nameAt image s (arena .store) p ≡ name = eqb-true _ _ (sym (belongs-name image s name (rowIn s (arena .store) p)) ∙ here) in
       next-of-name p low less ∙ ap (λ n. memberPlace image s (arena .store) (segment n everyParent 0) (p + 1) (x .end)) named
-  follows D objects g (of-object name parent object) p low less here =
+  follows D objects g (of-object by-pairs name parent object) p low less here =
       let row = rowIn s (arena .store) p in
       let both : (eqb (responseName image row) name && eqb (getD s row 0) parent) ≡ true = sym (belongs-parent image s name parent row) ∙ here in
       let named : nameAt image s (arena .store) p ≡ name = eqb-true _ _ (first-of (eqb (responseName image row) name) (eqb (getD s row 0) parent) both) in
       let of-parent : parentAt image s (arena .store) p ≡ parent = eqb-true _ _ (second-of (eqb (responseName image row) name) (eqb (getD s row 0) parent) both) in
       let is-object : hasObjectParent image s (rowIn s (arena .store) p) ≡ true = ap (λ k. eqb (typeKind image k) objectType) of-parent ∙ objects parent ∙ object in
       let same : pairSegment image s (arena .store) p ≡ segment name oneParent parent = rw (is-object, named, of-parent) in
-      next-of-pair oneParent p one-column low less ∙ ap (λ g. memberPlace image s (arena .store) g (p + 1) (x .end)) same
-  follows D objects g (of-others name) p low less here =
+      next-of-pair by-pairs oneParent p one-column low less ∙ ap (λ g. memberPlace image s (arena .store) g (p + 1) (x .end)) same
+  follows D objects g (of-others by-pairs name) p low less here =
       let row = rowIn s (arena .store) p in
       let both : (eqb (responseName image row) name && not (hasObjectParent image s row)) ≡ true = sym (belongs-others image s name row) ∙ here in
       let named : nameAt image s (arena .store) p ≡ name = eqb-true _ _ (first-of (eqb (responseName image row) name) (not (hasObjectParent image s row)) both) in
       let none : hasObjectParent image s (rowIn s (arena .store) p) ≡ false = unless (hasObjectParent image s row) (second-of (eqb (responseName image row) name) (not (hasObjectParent image s row)) both) in
       let same : pairSegment image s (arena .store) p ≡ segment name abstractParent 0 = rw (none, named) in
-      next-of-pair abstractParent p others-column low less ∙ ap (λ g. memberPlace image s (arena .store) g (p + 1) (x .end)) same
+      next-of-pair by-pairs abstractParent p others-column low less ∙ ap (λ g. memberPlace image s (arena .store) g (p + 1) (x .end)) same
     where
       unless : (b : Bool) → not b ≡ true → b ≡ false
       unless true e = absurd (false≢true e)
@@ -145,16 +145,16 @@ module _ {image s : List ℕ} {arena : Arena} {x : places.List} (t : Threaded im
       rw is (eqb-true _ _ (sym (belongs-name image s (nameAt image s (arena .store) p) _) ∙ here) ∙ named)
 
   -- a field of the name opens a subgroup as its links say
-  pub opens-as : (name p : ℕ) → x .start ≤ p → p < x .end → nameAt image s (arena .store) p ≡ name → opensAt image s arena p ≡ opensSubgroup image s (arena .store) x name p
+  pub opens-as : isShape ≡ false → (name p : ℕ) → x .start ≤ p → p < x .end → nameAt image s (arena .store) p ≡ name → opensAt image s arena p ≡ opensSubgroup image s (arena .store) x name p
   unfolding opensSubgroup
-  opens-as name p low less named = go (hasObjectParent image s (rowIn s (arena .store) p)) refl
+  opens-as by-pairs name p low less named = go (hasObjectParent image s (rowIn s (arena .store) p)) refl
     where
       go : (b : Bool) → hasObjectParent image s (rowIn s (arena .store) p) ≡ b → opensAt image s arena p ≡ opensSubgroup image s (arena .store) x name p
       go false none = rw (none, eq-eqb _ _ named)
       go true object =
           let same : pairSegment image s (arena .store) p ≡ segment name oneParent (parentAt image s (arena .store) p) = rw (object, named) in
           let first : linkAt s arena p 3 ≡ memberPlace image s (arena .store) (segment name oneParent (parentAt image s (arena .store) p)) (x .start) p =
-          t .first-pair p low less ∙ ap (λ g. memberPlace image s (arena .store) g (x .start) p) same in
+          t .first-pair by-pairs p low less ∙ ap (λ g. memberPlace image s (arena .store) g (x .start) p) same in
           rw (object, eq-eqb _ _ named, first)
 
 -- a field of another name opens none of the subgroups of a name
@@ -172,16 +172,16 @@ module _ (image s : List ℕ) (arena : Arena) (test : places.List → ℕ → �
   -- the places from `from` to here fail, and here the name goes on
   pub record OnName (from end place : ℕ) : Type 0 where
     pub ahead : from ≤ place
-    pub passed : (x : places.List) → x .end ≡ end → (name : ℕ) → Threaded image s arena x → x .start ≤ from → (from < x .end → nameAt image s (arena .store) from ≡ name)
+    pub passed : (x : places.List) → x .end ≡ end → (name : ℕ) → Threaded image s arena false x → x .start ≤ from → (from < x .end → nameAt image s (arena .store) from ≡ name)
         → Passed (test x name) from (x .end) place
-    pub named : (x : places.List) → x .end ≡ end → (name : ℕ) → Threaded image s arena x → x .start ≤ from → (from < x .end → nameAt image s (arena .store) from ≡ name)
+    pub named : (x : places.List) → x .end ≡ end → (name : ℕ) → Threaded image s arena false x → x .start ≤ from → (from < x .end → nameAt image s (arena .store) from ≡ name)
         → place < x .end → nameAt image s (arena .store) place ≡ name
 
   pub on-name-first : (from end : ℕ) → OnName from end from
   on-name-first from end = record { ahead = omega arith; passed = λ x is name t low here. passed-none (test x name) from (x .end); named = λ x is name t low here less. here less }
 
   module _ (unlike : (x : places.List) (name q : ℕ) → eqb (nameAt image s (arena .store) q) name ≡ false → test x name q ≡ false) {from end place : ℕ} (on : OnName from end place) where
-    pub on-name-next : place < end → ((x : places.List) (name : ℕ) → x .end ≡ end → Threaded image s arena x → x .start ≤ place → nameAt image s (arena .store) place ≡ name → test x name place ≡ false)
+    pub on-name-next : place < end → ((x : places.List) (name : ℕ) → x .end ≡ end → Threaded image s arena false x → x .start ≤ place → nameAt image s (arena .store) place ≡ name → test x name place ≡ false)
         → {next : ℕ} → next ≡ followed s arena everyParent place end → OnName from end next
     on-name-next less fails {next} e = record {
       ahead = omega (arith, on .ahead, follow-ahead s arena everyParent place end e less);
@@ -197,7 +197,7 @@ module _ (image s : List ℕ) (arena : Arena) (test : places.List → ℕ → �
     }
 
     -- the search ends here
-    pub on-name-end : (x : places.List) → x .end ≡ end → (name : ℕ) → Threaded image s arena x → x .start ≤ from → (from < x .end → nameAt image s (arena .store) from ≡ name)
+    pub on-name-end : (x : places.List) → x .end ≡ end → (name : ℕ) → Threaded image s arena false x → x .start ≤ from → (from < x .end → nameAt image s (arena .store) from ≡ name)
         → (place < x .end → nameAt image s (arena .store) place ≡ name → test x name place ≡ true) → place ≡ seek (test x name) from (x .end)
     on-name-end x is name t low here passes = seek-is (test x name) from (x .end) (on .passed x is name t low here) (λ less. passes less (on .named x is name t low here less))
 
@@ -217,7 +217,7 @@ module _ {image s : List ℕ} {arena : Arena} {from end place : ℕ} where
       → OnName image s arena (opensOf image s arena) from end next
   opens-next on less fails e =
       on-name-next image s arena (opensOf image s arena) (λ x name q h. other-opens image s (arena .store) x name q h) on less
-      (λ x name is t low named. sym (opens-as t name place low (omega arith) named) ∙ fails) e
+      (λ x name is t low named. sym (opens-as t refl name place low (omega arith) named) ∙ fails) e
 
   pub opens-found : OnName image s arena (opensOf image s arena) from end place → (place < end → opensAt image s arena place ≡ true) → (x : places.List) → x .end ≡ end
       → FindsSubgroup image s arena x from place
@@ -225,7 +225,7 @@ module _ {image s : List ℕ} {arena : Arena} {from end place : ℕ} where
     ahead = on .ahead;
     found = λ name t low here.
         on-name-end image s arena (opensOf image s arena) (λ x name q h. other-opens image s (arena .store) x name q h) on x is name t low here
-        (λ less named. sym (opens-as t name place (omega (arith, on .ahead)) less named) ∙ passes (omega arith));
+        (λ less named. sym (opens-as t refl name place (omega (arith, on .ahead)) less named) ∙ passes (omega arith));
   }
 
   pub others-next : OnName image s arena (othersOf image s arena) from end place → place < end → hasObjectParent image s (rowIn s (arena .store) place) ≡ true → {next : ℕ}
@@ -274,7 +274,7 @@ module _ {image s : List ℕ} {arena : Arena} {x : places.List} where
             late : x .end ≤ c .first → x .end ≤ next
             late over = rw e (follow-late s arena everyParent (c .first) (x .end) over)
 
-        found : Threaded image s arena x → Open image s arena x c → place ≡ cond (hasObjectParent image s (rowIn s (arena .store) (c .first))) (subgroupPlace image s (arena .store) x (nameAt image s (arena .store) (c .group)) (c .first + 1)) (x .end)
+        found : Threaded image s arena false x → Open image s arena x c → place ≡ cond (hasObjectParent image s (rowIn s (arena .store) (c .first))) (subgroupPlace image s (arena .store) x (nameAt image s (arena .store) (c .group)) (c .first + 1)) (x .end)
         found t o =
             let n = nameAt image s (arena .store) (c .group) in
             let low : x .start ≤ c .first = omega (arith, o .from, o .ahead) in

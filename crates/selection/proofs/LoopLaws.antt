@@ -21,13 +21,13 @@ use Rattle.selection.proofs.PassLaws.{walkRest, Progress, progress-turn
 -- the walk of a list, and of a part, for an operation
 abbrev pub WalksAs : List ℕ → Arena → ℕ → ℕ → List ℕ → List ℕ → states.Walk → places.List → Bool → ℕ → states.Walk → Type 0
 WalksAs image arena work op s s′ z x isShape levels z′ =
-    (l : List ℕ) → Site image arena work op s z → Stands arena s x l → x .start ≤ x .end → x .end ≤ z .known → Rows image arena work op l
+    (l : List ℕ) → Site image arena work op s z → Stands arena isShape s x l → x .start ≤ x .end → x .end ≤ z .known → Rows image arena work op l
     → Refines image arena work op (walkList image arena work op (passOf image isShape) levels l) s s′ z z′
 
 abbrev StepsAs : List ℕ → Arena → ℕ → ℕ → List ℕ → List ℕ → states.Walk → Part → Bool → ℕ → states.Walk → Type 0
 StepsAs image arena work op s s′ z part isShape levels z′ =
-    (l rows : List ℕ) → Site image arena work op s z → Stands arena s (part .list) l → part .list .start ≤ part .list .end
-    → Rows image arena work op l → PartAt (document image) s (arena .store) l part rows → Rows image arena work op rows
+    (l rows : List ℕ) → Site image arena work op s z → Stands arena isShape s (part .list) l → part .list .start ≤ part .list .end
+    → Rows image arena work op l → PartAt (document image) isShape s (arena .store) l part rows → Rows image arena work op rows
     → Refines image arena work op (onePart image arena work op (passOf image isShape) levels rows) s s′ z z′
 
 -- a part and all that is below it
@@ -35,8 +35,8 @@ pub record Stepped (image : List ℕ) (arena : Arena) (work : ℕ) (s s′ : Lis
   pub long : length s′ ≡ length s
   pub operation : z′ .reply .operation ≡ z .reply .operation
   pub ample : z′ .reply .kind ≡ 0 → Ample work 0 z′
-  pub refines : (l rows : List ℕ) → Site image arena work (z .reply .operation) s z → Stands arena s (part .list) l → part .list .start ≤ part .list .end
-      → Rows image arena work (z .reply .operation) l → PartAt (document image) s (arena .store) l part rows → Rows image arena work (z .reply .operation) rows
+  pub refines : (l rows : List ℕ) → Site image arena work (z .reply .operation) s z → Stands arena isShape s (part .list) l → part .list .start ≤ part .list .end
+      → Rows image arena work (z .reply .operation) l → PartAt (document image) isShape s (arena .store) l part rows → Rows image arena work (z .reply .operation) rows
       → Refines image arena work (z .reply .operation) (onePart image arena work (z .reply .operation) (passOf image isShape) levels rows) s s′ z z′
 
 module _ {image : List ℕ} {arena : Arena} {work : ℕ} {s s₁ : List ℕ} {z : states.Walk} {part : Part} {isShape : Bool} {m : Met} (long₁ : length s₁ ≡ length s)
@@ -96,23 +96,23 @@ pub record PassLoop (image : List ℕ) (arena : Arena) (work : ℕ) (s₀ s : Li
   pub long : length s ≡ length s₀
   pub operation : z .reply .operation ≡ z₀ .reply .operation
   pub ample : z .reply .kind ≡ 0 → Ample work 0 z
-  pub walks : (l : List ℕ) → Site image arena work (z₀ .reply .operation) s₀ z₀ → Stands arena s₀ x l → x .start ≤ x .end → x .end ≤ z₀ .known → Rows image arena work (z₀ .reply .operation) l
+  pub walks : (l : List ℕ) → Site image arena work (z₀ .reply .operation) s₀ z₀ → Stands arena isShape s₀ x l → x .start ≤ x .end → x .end ≤ z₀ .known → Rows image arena work (z₀ .reply .operation) l
       → (rest : List (List ℕ)) × Left l rest × Progress image arena work (z₀ .reply .operation) (passOf image isShape) levels (passOf image isShape .parts l) s₀ s z₀ z rest
 
 -- a part is walked, and the rest are left
-pub record Opens (image : List ℕ) (arena : Arena) (work op : ℕ) (s s′ : List ℕ) (part : Part) (l : List ℕ) (rest : List (List ℕ)) (Next : List ℕ → List (List ℕ) → Type 0) : Type 0 where
+pub record Opens (image : List ℕ) (arena : Arena) (work op : ℕ) (isShape : Bool) (s s′ : List ℕ) (part : Part) (l : List ℕ) (rest : List (List ℕ)) (Next : List ℕ → List (List ℕ) → Type 0) : Type 0 where
   pub rows : List ℕ
   pub others : List (List ℕ)
   pub is : rest ≡ rows ∷ others
-  pub at : PartAt (document image) s (arena .store) l part rows
+  pub at : PartAt (document image) isShape s (arena .store) l part rows
   pub fields : Rows image arena work op rows
   pub next : Next l others
 
 module _ {image : List ℕ} {arena : Arena} {work : ℕ} {s₀ s : List ℕ} {z₀ z : states.Walk} {x : places.List} {isShape : Bool} {levels : ℕ} {Left : List ℕ → List (List ℕ) → Type 0} where
   pub loop-turn : (Next : List ℕ → List (List ℕ) → Type 0) {s′ : List ℕ} {z′ : states.Walk} {part : Part} → PassLoop image arena work s₀ s z₀ z x isShape levels Left → Ample work 0 z → part .list ≡ x
       → Stepped image arena work s s′ z part isShape levels z′
-      → ((l : List ℕ) (rest : List (List ℕ)) → Site image arena work (z₀ .reply .operation) s z → Stands arena s x l → x .start ≤ x .end → x .end ≤ z .known
-      → Rows image arena work (z₀ .reply .operation) l → Left l rest → Opens image arena work (z₀ .reply .operation) s s′ part l rest Next)
+      → ((l : List ℕ) (rest : List (List ℕ)) → Site image arena work (z₀ .reply .operation) s z → Stands arena isShape s x l → x .start ≤ x .end → x .end ≤ z .known
+      → Rows image arena work (z₀ .reply .operation) l → Left l rest → Opens image arena work (z₀ .reply .operation) isShape s s′ part l rest Next)
       → PassLoop image arena work s₀ s′ z₀ z′ x isShape levels Next
   loop-turn Next {s′} {z′} {part} loop ample is step opens = record {
     long = step .long ∙ loop .long;
@@ -154,7 +154,7 @@ module _ {image : List ℕ} {arena : Arena} {work : ℕ} {s₀ s : List ℕ} {z�
 
   -- what is left, said in another way where the walk goes on
   pub loop-move : (Next : List ℕ → List (List ℕ) → Type 0) → PassLoop image arena work s₀ s z₀ z x isShape levels Left → z .reply .kind ≡ 0
-      → ((l : List ℕ) (rest : List (List ℕ)) → Site image arena work (z₀ .reply .operation) s z → Stands arena s x l → Rows image arena work (z₀ .reply .operation) l → Left l rest → Next l rest)
+      → ((l : List ℕ) (rest : List (List ℕ)) → Site image arena work (z₀ .reply .operation) s z → Stands arena isShape s x l → Rows image arena work (z₀ .reply .operation) l → Left l rest → Next l rest)
       → PassLoop image arena work s₀ s z₀ z x isShape levels Next
   loop-move Next loop go moves = record {
     long = loop .long;

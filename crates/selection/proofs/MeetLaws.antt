@@ -25,7 +25,7 @@ use Rattle.selection.specs.KnownLists.{AtHand, sumAt, headAt}
 use Rattle.selection.specs.Regions.{Places}
 use Rattle.selection.specs.Standing.{LinkFrame, LinkableBoth, Stood}
 use Rattle.selection.specs.Places.{rowIn}
-use Rattle.selection.specs.Refining.{document, Holds, Tells, charged, lengthOf, MeetsList, Ample, Begun, Site, Rows, Kept, Refines, walkList, Entered, Meets, Queued, MeetsSets}
+use Rattle.selection.specs.Refining.{document, passOf, Holds, Tells, charged, lengthOf, MeetsList, Ample, Begun, Site, Rows, Kept, Refines, walkList, Entered, Meets, Queued, MeetsSets}
 use Rattle.selection.proofs.ParentsLaws.{few-rows}
 use Rattle.selection.proofs.StandLaws.{classed-kept, heads-low, in-front, row-in}
 use Rattle.selection.proofs.ExpandedLaws.{listed-expand, stores-same}
@@ -287,15 +287,15 @@ module _ {image : List ℕ} {arena : Arena} {work : ℕ} {s s₁ s₂ : List ℕ
           small = regions .small;
         }
 
-  module _ (deeper : m .deeper ≡ true) {s′ : List ℕ} (stood : Stood arena s₂ s′ (m .list)) where
+  module _ (deeper : m .deeper ≡ true) {s′ : List ℕ} {isShape : Bool} (stood : Stood arena isShape s₂ s′ (m .list)) where
     abbrev site-now : Site image arena work (z .reply .operation) s₂ (m .walk)
     site-now = site-met deeper
 
     framed : LinkFrame arena (m .list .start) s₂ s′
     framed = stood .frame (countAt image selections) (linkable deeper)
 
-    pub entered-linked : (P : Pass) → Entered image arena work (z .reply .operation) P (λ levels. walk (document image) P work levels starts) s s′ z m
-    entered-linked P = record {
+    pub entered-linked : Entered image arena work (z .reply .operation) isShape (λ levels. walk (document image) (passOf image isShape) work levels starts) s s′ z m
+    entered-linked = record {
       list = l;
       stands = record {
         rows = record { rows = stores-same (framed .long) (λ k ge less. framed .store k (omega arith)) (list₂ .rows) };
@@ -328,22 +328,22 @@ module _ {image : List ℕ} {arena : Arena} {work : ℕ} {s s₁ s₂ : List ℕ
           let met-now = met-entered (z .reply .operation) met l list₁ ls used (holds₁ ls used h) deeper (heads-low regions) spread-more (begun .listed) (listed .grows) in
           let was = met-now .0 in
           record { known = known-kept (x .listed) (heads-low regions) (met-now .3) (framed .long) (λ k ge less. framed .links k ge (omega (arith, start-is deeper, begun .listed))) (λ k ge less. framed .store k ge) (was .known); reply = was .reply };
-      same = entered-same deeper P;
+      same = entered-same deeper (passOf image isShape);
     }
 
   pub flat-done : m .deeper ≡ false → {s′ : List ℕ} → s′ ≡ s₂ → (P : Pass) (levels : ℕ) → Refines image arena work (z .reply .operation) (walk (document image) P work levels starts) s s′ z (m .walk)
   flat-done flat same P levels = rw same (record { tells = λ ls used h. flat-tells flat P levels ls used h; site = site₂; kept = kept })
 
 -- what happens to the words once a list is met
-pub data Linking (arena : Arena) (s s′ : List ℕ) (m : Met) : Type 0 where
-  links-it : m .deeper ≡ true → Stood arena s s′ (m .list) → Linking arena s s′ m
-  leaves-it : m .deeper ≡ false → s′ ≡ s → Linking arena s s′ m
+pub data Linking (arena : Arena) (isShape : Bool) (s s′ : List ℕ) (m : Met) : Type 0 where
+  links-it : m .deeper ≡ true → Stood arena isShape s s′ (m .list) → Linking arena isShape s s′ m
+  leaves-it : m .deeper ≡ false → s′ ≡ s → Linking arena isShape s s′ m
 
-pub meets-sets : {image : List ℕ} {arena : Arena} {work : ℕ} {s s₁ s₂ s′ : List ℕ} {z : states.Walk} {x : Expansion} {end : ℕ} {m : Met}
+pub meets-sets : {image : List ℕ} {arena : Arena} {work : ℕ} {s s₁ s₂ s′ : List ℕ} {z : states.Walk} {x : Expansion} {end : ℕ} {isShape : Bool} {m : Met}
     → Ample work 0 z → Begun z x → Expanded image arena s s₁ x end
     → MeetsList s₁ s₂ arena work (record { reply = z .reply; known = z .known; expansions = x .number }) (record { start = x .listed; end = end }) m
-    → Linking arena s₂ s′ m → MeetsSets image arena work s s′ z x m
-meets-sets {image} {arena} {work} {s} {s₂ = s₂} {s′ = s′} {z = z} {x = x} {m = m} ample begun expanded met linking = record {
+    → Linking arena isShape s₂ s′ m → MeetsSets image arena work s s′ z x isShape m
+meets-sets {image} {arena} {work} {s} {s₂ = s₂} {s′ = s′} {z = z} {x = x} {isShape = isShape} {m = m} ample begun expanded met linking = record {
   operation = after-met met .operation;
   going = after-met met .going;
   ample = ample-met met (record {
@@ -354,16 +354,16 @@ meets-sets {image} {arena} {work} {s} {s₂ = s₂} {s′ = s′} {z = z} {x = x
     countable = omega (arith, ample .countable, begun .number);
     budget = ample .budget;
   }) (omega (arith, begun .listed));
-  meets = λ P starts site queued. by-linking linking P starts site queued;
+  meets = λ starts site queued. by-linking linking starts site queued;
 }
   where
-    by-linking : Linking arena s₂ s′ m → (P : Pass) (starts : List ℕ) → Site image arena work (z .reply .operation) s z → Queued image arena work (z .reply .operation) s x starts
-        → Meets image arena work (z .reply .operation) P (λ levels. walk (document image) P work levels starts) s s′ z m
-    by-linking (links-it deeper stood) P starts site queued = record {
+    by-linking : Linking arena isShape s₂ s′ m → (starts : List ℕ) → Site image arena work (z .reply .operation) s z → Queued image arena work (z .reply .operation) s x starts
+        → Meets image arena work (z .reply .operation) isShape (λ levels. walk (document image) (passOf image isShape) work levels starts) s s′ z m
+    by-linking (links-it deeper stood) starts site queued = record {
       done = λ flat. absurd (false≢true (sym flat ∙ deeper));
-      entered = λ _. entered-linked ample begun expanded met starts site queued deeper stood P;
+      entered = λ _. entered-linked ample begun expanded met starts site queued deeper stood;
     }
-    by-linking (leaves-it flat same) P starts site queued = record {
-      done = λ _ levels. flat-done ample begun expanded met starts site queued flat same P levels;
+    by-linking (leaves-it flat same) starts site queued = record {
+      done = λ _ levels. flat-done ample begun expanded met starts site queued flat same (passOf image isShape) levels;
       entered = λ deeper. absurd (false≢true (sym flat ∙ deeper));
     }

@@ -30,8 +30,8 @@ use Rattle.selection.proofs.LoopLaws.{WalksAs}
 use Rattle.selection.proofs.PartMeets.{aside, finished-first}
 
 -- words of the queue changed before
-meets-aside : {image : List ℕ} {arena : Arena} {work op : ℕ} {P : Pass} {step : ℕ → Step} {s s₁ s′ : List ℕ} {z : states.Walk} {m : Met} → Site image arena work op s z
-    → Outside (arena .queue) (arena .lasts - arena .queue) s s₁ → z .reply .kind ≡ 0 → Meets image arena work op P step s₁ s′ z m → Meets image arena work op P step s s′ z m
+meets-aside : {image : List ℕ} {arena : Arena} {work op : ℕ} {isShape : Bool} {step : ℕ → Step} {s s₁ s′ : List ℕ} {z : states.Walk} {m : Met} → Site image arena work op s z
+    → Outside (arena .queue) (arena .lasts - arena .queue) s s₁ → z .reply .kind ≡ 0 → Meets image arena work op isShape step s₁ s′ z m → Meets image arena work op isShape step s s′ z m
 meets-aside {step = step} site o go inner =
     let beside = aside site o in
     record {
@@ -71,13 +71,13 @@ ample-forgotten a = record { going = a .going; paid = omega arith; few = omega a
 pub begun-set : (arena : Arena) {z : states.Walk} {x₀ x : Expansion} → Begun z x₀ → x ≡ queueNext arena x₀ → Begun z x
 begun-set arena {z} {x₀} begun e = rw e (record { listed = next-listed arena x₀ .0 ∙ begun .listed; number = next-listed arena x₀ .1 ∙ begun .number })
 
-pub operation-met : {image : List ℕ} {arena : Arena} {work operation : ℕ} {s s₁ s′ : List ℕ} {z : states.Walk} (x₀ : Expansion) {x : Expansion} {m : Met} → Ample work 0 z → x₀ .queued ≡ 0
-    → x ≡ queueNext arena x₀ → s₁ ≡ queueWords arena x₀ s operation → MeetsSets image arena work s₁ s′ (forgotten z) x m → MeetsOperation image arena work operation s s′ z m
+pub operation-met : {image : List ℕ} {arena : Arena} {work operation : ℕ} {s s₁ s′ : List ℕ} {z : states.Walk} (x₀ : Expansion) {x : Expansion} {isShape : Bool} {m : Met} → Ample work 0 z → x₀ .queued ≡ 0
+    → x ≡ queueNext arena x₀ → s₁ ≡ queueWords arena x₀ s operation → MeetsSets image arena work s₁ s′ (forgotten z) x isShape m → MeetsOperation image arena work operation s s′ z isShape m
 operation-met {image} {arena} {work} {operation} {s} {s₁} {s′} {z} x₀ {x} {m} ample empty next words met = record {
   same = met .operation;
   going = met .going;
   ample = met .ample;
-  meets = λ P site is row.
+  meets = λ site is row.
       let r = site .regions in
       let site₀ = site-forgotten site in
       let some-sets : operation < countAt image sets = omega (arith, site .good .own-sets, row) in
@@ -86,7 +86,7 @@ operation-met {image} {arena} {work} {operation} {s} {s₁} {s′} {z} x₀ {x} 
       let nothing : Stores s (arena .queue) (x₀ .queued) [] = rw empty (stores-none s (arena .queue) (omega (arith, inside, r .lasts))) in
       let o : Outside (arena .queue) (arena .lasts - arena .queue) s s₁ = rw words (outside-wider (queue-outside arena x₀ s operation room) (arena .queue) (arena .lasts - arena .queue) (omega arith) (omega (arith, room))) in
       let one : x .queued ≡ x₀ .queued + 1 = rw (next, queue-next arena x₀ s operation room) in
-      meets-aside site₀ o (ample .going) (met .meets P (operation ∷ []) (site-queue site₀ o) (record {
+      meets-aside site₀ o (ample .going) (met .meets (operation ∷ []) (site-queue site₀ o) (record {
         queue = rw (one, words) (queue-stores arena x₀ s operation room nothing inside);
         allowed = only (StartSet image) (of-operation row);
         once = once-more not-in-nil once-none;
@@ -146,14 +146,14 @@ runs-by {arena = arena} forgot long same ample refines = record {
 }
 
 module _ {image : List ℕ} {arena : Arena} {work operation : ℕ} {s s₀ s₁ : List ℕ} {z : states.Walk} {m : Met} (isShape : Bool) (forgot : s₀ ≡ emptied arena s) (long₁ : length s₁ ≡ length s)
-    (met : MeetsOperation image arena work operation s₀ s₁ z m) where
+    (met : MeetsOperation image arena work operation s₀ s₁ z isShape m) where
   pub pass-flat : m .deeper ≡ false → Runs image arena work operation s s₁ z isShape (m .walk)
-  pass-flat flat = runs-by forgot long₁ (met .same) (met .ample) (λ site is row. met .meets (passOf image isShape) site is row .done flat (suc limitOfLinks))
+  pass-flat flat = runs-by forgot long₁ (met .same) (met .ample) (λ site is row. met .meets site is row .done flat (suc limitOfLinks))
 
   pub pass-deeper : m .deeper ≡ true → {s′ : List ℕ} {z′ : states.Walk} → WalksList image arena work s₁ s′ (m .walk) (m .list) isShape (suc limitOfLinks) z′
       → Runs image arena work operation s s′ z isShape z′
   pass-deeper deeper {s′} {z′} walked = runs-by forgot (walked .long ∙ long₁) (walked .operation ∙ met .same) (walked .ample) λ site is row.
-      let e = met .meets (passOf image isShape) site is row .entered deeper in
+      let e = met .meets site is row .entered deeper in
       let r = walks (e .list) (e .site) (e .stands) (e .ordered) (e .stored) (e .rows) in
       record {
         tells = λ ls used h. rw (e .same (suc limitOfLinks) ls used h) (r .tells (ls ++ e .list ∷ []) (used + suc (length (e .list))) (e .goes ls used h));

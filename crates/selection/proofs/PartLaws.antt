@@ -209,7 +209,7 @@ module _ {D : Document} {image s : List ℕ} {store : ℕ} {x : places.List} {l 
       (sym alone ∙ filter-cong _ _ l (λ f. member-all D n f ∙ ap (eqb (D .nameOf f)) (G .names (rowIn s store g))))
 
   pub group-part : (g : ℕ) → x .start ≤ g → g < x .end → appears (D .nameOf) all (before x l g) (rowIn s store g) ≡ true
-      → PartAt D s store l (groupPart image s store x g) (fieldsWith (D .nameOf) l (D .nameOf (rowIn s store g)))
+      → PartAt D true s store l (groupPart image s store x g) (fieldsWith (D .nameOf) l (D .nameOf (rowIn s store g)))
   unfolding groupPart
   group-part g low less opens = record {
     from = low;
@@ -313,7 +313,7 @@ module _ {D : Document} {image s : List ℕ} {store : ℕ} {x : places.List} {l 
     back-rows = abstracts-from (c .group) (group-in .0) (group-in .1) (rw group-row (here .group)) ∙ ap (λ f. abstracts D (fieldsWith (D .nameOf) l (D .nameOf f))) group-row
 
     with-object : appears (D .parentOf) (concrete D nameC) (before x l (c .first)) (fieldAt x l (c .first)) ≡ true
-        → D .isObject (D .parentOf (fieldAt x l (c .first))) ≡ true → PartAt D s store l (subgroupPart image s store x c) (subgroupAt D x l c)
+        → D .isObject (D .parentOf (fieldAt x l (c .first))) ≡ true → PartAt D false s store l (subgroupPart image s store x c) (subgroupAt D x l c)
     unfolding subgroupPart subgroupAt partRows
     with-object opens object =
         let object-s = object-here ∙ object in
@@ -328,13 +328,13 @@ module _ {D : Document} {image s : List ℕ} {store : ℕ} {x : places.List} {l 
           below = first-in .1;
           behind = omega (arith, here .from, here .rest .ahead);
           starts = λ less. rw (rest-row less) (rest-here .passes less);
-          front-proper = of-object n (parentAt image s store (c .first)) (sym (G .objects (parentAt image s store (c .first))) ∙ object-s);
-          back-proper = of-others n;
+          front-proper = of-object refl n (parentAt image s store (c .first)) (sym (G .objects (parentAt image s store (c .first))) ∙ object-s);
+          back-proper = of-others refl n;
           heads = member-one D n (parentAt image s store (c .first)) (rowIn s store (c .first)) ∙ both named (eq-eqb _ _ (sym (G .parents (c .first) (first-in .0) (first-in .1))));
           fields = ap (λ m. filter (member D (segment n oneParent (parentAt image s store (c .first)))) (onward x l (c .first)) ++ m) (sym (rest-here .same)) ∙ ap (λ m. m ++ filter (member D (segment n abstractParent 0)) (onward x l (c .group))) rows ∙ ap (λ m. fieldsWith (D .parentOf) (fieldsWith (D .nameOf) l nameC) (D .parentOf (fieldAt x l (c .first))) ++ m) back-rows;
         })
 
-    without-object : D .isObject (D .parentOf (fieldAt x l (c .first))) ≡ false → c .first ≡ c .group → PartAt D s store l (subgroupPart image s store x c) (subgroupAt D x l c)
+    without-object : D .isObject (D .parentOf (fieldAt x l (c .first))) ≡ false → c .first ≡ c .group → PartAt D false s store l (subgroupPart image s store x c) (subgroupAt D x l c)
     unfolding subgroupPart subgroupAt partRows
     without-object object is =
         let object-s = object-here ∙ object in
@@ -346,8 +346,8 @@ module _ {D : Document} {image s : List ℕ} {store : ℕ} {x : places.List} {l 
           below = first-in .1;
           behind = omega (arith, first-in .0, first-in .1);
           starts = λ over. absurd (omega arith);
-          front-proper = of-others n;
-          back-proper = of-others n;
+          front-proper = of-others refl n;
+          back-proper = of-others refl n;
           heads = member-abstract D n (rowIn s store (c .first)) ∙ both (eq-eqb _ _ named) no-object;
           fields = ap (λ m. filter (member D (segment n abstractParent 0)) (onward x l (c .first)) ++ m) (nothing-behind (segment n abstractParent 0))
               ∙ append-nil (filter (member D (segment n abstractParent 0)) (onward x l (c .first)))
@@ -356,7 +356,7 @@ module _ {D : Document} {image s : List ℕ} {store : ℕ} {x : places.List} {l 
         })
 
     -- the part at a cursor is the subgroup there
-    pub subgroup-part : PartAt D s store l (subgroupPart image s store x c) (subgroupAt D x l c)
+    pub subgroup-part : PartAt D false s store l (subgroupPart image s store x c) (subgroupAt D x l c)
     subgroup-part = ⊎-elim (λ opens. with-object opens (second-of (eqb (D .nameOf (fieldAt x l (c .first))) nameC) (D .isObject (D .parentOf (fieldAt x l (c .first)))) (concrete-of D nameC _ _ opens))) (λ h. without-object (h .0) (h .1)) (here .first)
 
     -- its first field has the group's name

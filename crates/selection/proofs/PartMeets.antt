@@ -74,7 +74,7 @@ part-bare {image} {s} {arena} {work} {z} {part} isShape ample bare is = record {
   going = λ e. absurd (false≢true e);
   ample = λ _. ample;
   meets = λ l rows site stands ordered listed p fields.
-      let only = bare .alone is l rows (grounded site listed (stands .rows)) (threaded site listed stands) p in
+      let only = bare .alone is isShape l rows (grounded site listed (stands .rows)) (threaded site listed stands) p in
       let f = rowIn s (arena .store) (part .first) in
       let one : Rows image arena work (z .reply .operation) (rowIn s (arena .store) (part .first) ∷ []) = rw only at fields in
       let kind = field-kind-of image (one .fields (rowIn s (arena .store) (part .first)) (here refl)) in
@@ -113,8 +113,8 @@ aside {image} {arena} {work} {op} {s} {s′} {z} site o =
 
 module _ {image : List ℕ} {arena : Arena} {work : ℕ} {s : List ℕ} {z z₁ : states.Walk} {part : Part} {isShape : Bool} (ample : Ample work 0 z)
     (compared : ComparesPart image s arena z part isShape z₁) where
-  module _ (l rows : List ℕ) (site : Site image arena work (z .reply .operation) s z) (stands : Stands arena s (part .list) l)
-      (listed : Rows image arena work (z .reply .operation) l) (p : PartAt (document image) s (arena .store) l part rows) where
+  module _ (l rows : List ℕ) (site : Site image arena work (z .reply .operation) s z) (stands : Stands arena isShape s (part .list) l)
+      (listed : Rows image arena work (z .reply .operation) l) (p : PartAt (document image) isShape s (arena .store) l part rows) where
     compare-refines : (z₁ .reply .kind ≡ 0 → Site image arena work (z .reply .operation) s z₁)
         → Refines image arena work (z .reply .operation) (compareFirst (passOf image isShape .clash) rows) s s z z₁
     compare-refines site₁ = record {
@@ -139,13 +139,13 @@ module _ {image : List ℕ} {arena : Arena} {work : ℕ} {s : List ℕ} {z z₁ 
     same-state : z₁ ≡ z
     same-state = compared .same go
 
-    module _ (l rows : List ℕ) (site : Site image arena work (z .reply .operation) s z) (stands : Stands arena s (part .list) l) (ordered : part .list .start ≤ part .list .end)
-        (listed : Rows image arena work (z .reply .operation) l) (p : PartAt (document image) s (arena .store) l part rows) (fields : Rows image arena work (z .reply .operation) rows) where
+    module _ (l rows : List ℕ) (site : Site image arena work (z .reply .operation) s z) (stands : Stands arena isShape s (part .list) l) (ordered : part .list .start ≤ part .list .end)
+        (listed : Rows image arena work (z .reply .operation) l) (p : PartAt (document image) isShape s (arena .store) l part rows) (fields : Rows image arena work (z .reply .operation) rows) where
       below : List ℕ
       below = setsBelow (document image) rows
 
       queues : Queues image arena s s₁ x₀ x [] rows
-      queues = queued .queues work (z .reply .operation) z l [] rows p (record {
+      queues = queued .queues work (z .reply .operation) isShape z l [] rows p (record {
         site = site;
         stands = stands;
         ordered = ordered;
@@ -184,7 +184,7 @@ module _ {image : List ℕ} {arena : Arena} {work : ℕ} {s : List ℕ} {z z₁ 
     })
 
     -- the sets below are met
-    pub part-meets : (x .queued ≡ 0 → ⊥) → {s′ : List ℕ} {m : Met} → MeetsSets image arena work s₁ s′ z₁ x m → MeetsPart image arena work s s′ z part isShape m
+    pub part-meets : (x .queued ≡ 0 → ⊥) → {s′ : List ℕ} {m : Met} → MeetsSets image arena work s₁ s′ z₁ x isShape m → MeetsPart image arena work s s′ z part isShape m
     part-meets some-queued {s′} {m} met₁ = record {
       operation = met .operation;
       going = met .going;
@@ -195,7 +195,7 @@ module _ {image : List ℕ} {arena : Arena} {work : ℕ} {s : List ℕ} {z z₁ 
           let below = setsBelow (document image) rows in
           let beside = aside site (q .frame) in
           let some-below : length (setsBelow (document image) rows) ≡ 0 → ⊥ = λ e. some-queued (sym (size l rows site stands ordered listed p fields) ∙ e) in
-          let inner = met .meets (passOf image isShape) (setsBelow (document image) rows) (site-queue site (q .frame)) (record {
+          let inner = met .meets (setsBelow (document image) rows) (site-queue site (q .frame)) (record {
             queue = q .queue;
             allowed = below-start site fields;
             once = below-once site fields;
@@ -229,7 +229,7 @@ module _ {image : List ℕ} {arena : Arena} {work : ℕ} {s : List ℕ} {z z₁ 
           };
     }
       where
-        met : MeetsSets image arena work s₁ s′ z x m
+        met : MeetsSets image arena work s₁ s′ z x isShape m
         met = rw same-state at met₁
 
 pub begun-queued : {image : List ℕ} {arena : Arena} {s s′ : List ℕ} {z : states.Walk} {x₀ x : Expansion} {part : Part} → Begun z x₀ → QueuesPart image arena s s′ x₀ x part → Begun z x

@@ -107,8 +107,8 @@ pub record Queueing (image : List ℕ) (arena : Arena) (s₀ s : List ℕ) (e₀
   pub listed : e .listed ≡ e₀ .listed
   pub number : e .number ≡ e₀ .number
   pub long : length s ≡ length s₀
-  pub upto : (work op : ℕ) (z : states.Walk) (x : places.List) (l sets : List ℕ) → x .end ≡ end → x .start ≤ from
-      → (from < x .end → member (document image) g (rowIn s₀ (arena .store) from) ≡ true) → Proper (document image) g → CanQueue image arena work op s₀ z x l e₀ sets (filter (member (document image) g) (onward x l from)) → QueuedUpto image arena s₀ s e g from place x l sets
+  pub upto : (work op : ℕ) (isShape : Bool) (z : states.Walk) (x : places.List) (l sets : List ℕ) → x .end ≡ end → x .start ≤ from
+      → (from < x .end → member (document image) g (rowIn s₀ (arena .store) from) ≡ true) → Proper (document image) isShape g → CanQueue image arena work op isShape s₀ z x l e₀ sets (filter (member (document image) g) (onward x l from)) → QueuedUpto image arena s₀ s e g from place x l sets
 
 stores-at : {s s′ : List ℕ} {at n n′ : ℕ} {ws : List ℕ} → s′ ≡ s → n′ ≡ n → Stores s at n ws → Stores s′ at n′ ws
 stores-at e f r = rw (e, f) r
@@ -127,7 +127,7 @@ module _ {image : List ℕ} {arena : Arena} {s₀ : List ℕ} {e₀ : Expansion}
     listed = refl;
     number = refl;
     long = refl;
-    upto = λ work op z x l sets is low begins proper can. record {
+    upto = λ work op isShape z x l sets is low begins proper can. record {
       at = from;
       low = low;
       found = found-here (can .stands .rows) (member (document image) g) from low begins;
@@ -144,8 +144,8 @@ module _ {image : List ℕ} {arena : Arena} {s₀ : List ℕ} {e₀ : Expansion}
     listed = q .listed;
     number = q .number;
     long = q .long;
-    queues = λ work op z l sets low begins proper can.
-        let u = q .upto work op z x l sets is low begins proper can in
+    queues = λ work op isShape z l sets low begins proper can.
+        let u = q .upto work op isShape z x l sets is low begins proper can in
         record { queue = rw (← u .total, u .found .over (omega arith), sets-none (document image), append-nil (u .before)) (u .queue); frame = u .frame };
   }
 
@@ -168,11 +168,11 @@ module _ {image : List ℕ} {arena : Arena} {s₀ : List ℕ} {e₀ : Expansion}
         go true = length-queue arena e s (selectionTarget image row)
         go false = refl
 
-    module _ (work op : ℕ) (z : states.Walk) (x : places.List) (l sets : List ℕ) (is : x .end ≡ end) (low : x .start ≤ from)
-        (begins : from < x .end → member (document image) g (rowIn s₀ (arena .store) from) ≡ true) (proper : Proper (document image) g)
-        (can : CanQueue image arena work op s₀ z x l e₀ sets (filter (member (document image) g) (onward x l from))) where
+    module _ (work op : ℕ) (isShape : Bool) (z : states.Walk) (x : places.List) (l sets : List ℕ) (is : x .end ≡ end) (low : x .start ≤ from)
+        (begins : from < x .end → member (document image) g (rowIn s₀ (arena .store) from) ≡ true) (proper : Proper (document image) isShape g)
+        (can : CanQueue image arena work op isShape s₀ z x l e₀ sets (filter (member (document image) g) (onward x l from))) where
       u : QueuedUpto image arena s₀ s e g from place x l sets
-      u = q .upto work op z x l sets is low begins proper can
+      u = q .upto work op isShape z x l sets is low begins proper can
 
       abbrev rest : List ℕ
       rest = filter (member (document image) g) (onward x l (place + 1))
@@ -180,7 +180,7 @@ module _ {image : List ℕ} {arena : Arena} {s₀ : List ℕ} {e₀ : Expansion}
       site-now : Site image arena work op s z
       site-now = site-queue (can .site) (u .frame)
 
-      stands-now : Stands arena s x l
+      stands-now : Stands arena isShape s x l
       stands-now = stands-queue (can .site) (u .frame) (can .listed) (can .ordered) (can .stands)
 
       low-place : x .start ≤ place
@@ -227,11 +227,11 @@ module _ {image : List ℕ} {arena : Arena} {s₀ : List ℕ} {e₀ : Expansion}
       listed = field-listed .0 ∙ q .listed;
       number = field-listed .1 ∙ q .number;
       long = field-long ∙ q .long;
-      upto = λ work op z x l sets is low begins proper can.
-          let v = u work op z x l sets is low begins proper can in
-          let more = added-by work op z x l sets is low begins proper can (hasSet image row) refl in
+      upto = λ work op isShape z x l sets is low begins proper can.
+          let v = u work op isShape z x l sets is low begins proper can in
+          let more = added-by work op isShape z x l sets is low begins proper can (hasSet image row) refl in
           let frame : Outside (arena .queue) (arena .lasts - arena .queue) s₀ s′ = outside-trans (v .frame) (more .frame) in
-          let at-place : x .start ≤ place = low-place work op z x l sets is low begins proper can in
+          let at-place : x .start ≤ place = low-place work op isShape z x l sets is low begins proper can in
           let ahead : x .start ≤ place + 1 = omega arith in
           let near : place < x .end = omega arith in
           let site′ = site-queue (can .site) frame in
@@ -255,8 +255,8 @@ module _ {image : List ℕ} {arena : Arena} {s₀ : List ℕ} {e₀ : Expansion}
 -- ---- both segments of a part
 
 -- the rows of the store stay while sets are queued
-stays-at : {image : List ℕ} {arena : Arena} {work op : ℕ} {s s′ : List ℕ} {z : states.Walk} {x : places.List} {l : List ℕ} {e : Expansion} {sets rows : List ℕ} (place : ℕ)
-    → CanQueue image arena work op s z x l e sets rows → Outside (arena .queue) (arena .lasts - arena .queue) s s′ → rowIn s′ (arena .store) place ≡ rowIn s (arena .store) place
+stays-at : {image : List ℕ} {arena : Arena} {work op : ℕ} {isShape : Bool} {s s′ : List ℕ} {z : states.Walk} {x : places.List} {l : List ℕ} {e : Expansion} {sets rows : List ℕ} (place : ℕ)
+    → CanQueue image arena work op isShape s z x l e sets rows → Outside (arena .queue) (arena .lasts - arena .queue) s s′ → rowIn s′ (arena .store) place ≡ rowIn s (arena .store) place
 stays-at {arena = arena} place can o = let r = can .site .regions in o .above (arena .store + place) (omega (arith, r .lasts, r .heads, r .links, r .store))
 
 pub queued-part : {image : List ℕ} {arena : Arena} {s s₁ s′ : List ℕ} {e e₁ e′ : Expansion} {part : Part} → QueuesSegment image arena s s₁ e e₁ (part .list) (part .front) (part .first)
@@ -266,15 +266,15 @@ queued-part {image} {arena} {s} {s₁} {s′} {e} {e₁} {e′} {part} front bac
   listed = back .listed ∙ front .listed;
   number = back .number ∙ front .number;
   long = back .long ∙ front .long;
-  queues = λ work op z l sets rows p can.
+  queues = λ work op isShape z l sets rows p can.
       let D = document image in
       let xs = filter (member (document image) (part .front)) (onward (part .list) l (part .first)) in
       let ys = filter (member (document image) (part .back)) (onward (part .list) l (part .next)) in
       let both : sets ++ setsBelow (document image) rows ≡ (sets ++ setsBelow (document image) xs) ++ setsBelow (document image) ys =
       ap (λ m. sets ++ setsBelow (document image) m) (sym (p .fields)) ∙ ap (λ m. sets ++ m) (sets-append (document image) xs ys) ∙ sym (append-assoc sets (setsBelow (document image) xs) (setsBelow (document image) ys)) in
       let size : length (sets ++ setsBelow (document image) rows) ≡ length (sets ++ setsBelow (document image) xs) + length (setsBelow (document image) ys) = ap length both ∙ length-append (sets ++ setsBelow (document image) xs) (setsBelow (document image) ys) in
-      let first = front .queues work op z l sets (p .from) (λ less. p .heads) (p .front-proper) (record { site = can .site; stands = can .stands; ordered = can .ordered; listed = can .listed; queue = can .queue; fits = omega (arith, can .fits) }) in
-      let second = back .queues work op z l (sets ++ setsBelow (document image) xs) (p .behind) (λ less. rw (stays-at (part .next) can (first .frame)) (p .starts less)) (p .back-proper) (record {
+      let first = front .queues work op isShape z l sets (p .from) (λ less. p .heads) (p .front-proper) (record { site = can .site; stands = can .stands; ordered = can .ordered; listed = can .listed; queue = can .queue; fits = omega (arith, can .fits) }) in
+      let second = back .queues work op isShape z l (sets ++ setsBelow (document image) xs) (p .behind) (λ less. rw (stays-at (part .next) can (first .frame)) (p .starts less)) (p .back-proper) (record {
         site = site-queue (can .site) (first .frame);
         stands = stands-queue (can .site) (first .frame) (can .listed) (can .ordered) (can .stands);
         ordered = can .ordered;

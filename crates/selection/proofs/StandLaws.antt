@@ -1,7 +1,7 @@
 -- A list that stands in the words, with the links between its places: what it says, and that it stays. Assumes what `Site` does.
 use mathlib.Core.Path.{_≡_, refl, sym, ap, _∙_}
 use mathlib.Core.Logic.{_⊎_, inl, inr}
-use mathlib.Core.Bool.{Bool, true, false, cond, not, _&&_}
+use mathlib.Core.Bool.{Bool, true, false, cond, not, _&&_, false≢true}
 use mathlib.Core.List.{List, [], _∷_}
 use Prim.Native.Nat.{ℕ, zero, suc, _+_, _-_, _*_, _≤_, _<_, min}
 use native.Mathlib.Omega.{arith}
@@ -110,13 +110,30 @@ module _ {arena : Arena} {s s₁ s′ : List ℕ} {x : places.List} (first : Lin
         ))
         (first .linked n (both .names))
 
-  pub both-linked : Stood arena s s′ x
-  both-linked = record {
+  pub both-linked : (isShape : Bool) → Stood arena isShape s s′ x
+  both-linked isShape = record {
     long = second .long ∙ first .long;
     names = names-linked;
-    pairs = λ n both. second .linked n (pairs-now n both);
+    pairs = λ n both _. second .linked n (pairs-now n both);
     frame = framed-both;
   }
+
+-- by names alone
+pub names-alone : {arena : Arena} {s s′ : List ℕ} {x : places.List} → Links s s′ (namesChain arena) x → (isShape : Bool) → isShape ≡ true → Stood arena isShape s s′ x
+names-alone {arena} {s} {s′} {x} first isShape is = record {
+  long = first .long;
+  names = λ n both. first .linked n (both .names);
+  pairs = λ n both not-shape. absurd (false≢true (sym not-shape ∙ is));
+  frame = λ n both.
+      let low = both .pairs .below in
+      let small = both .small in
+      record {
+        long = first .long;
+        front = λ k h. first .frame n (both .names) k (record { lasts = inl h; links = λ p m l. (λ e. omega (arith, both .names .before), λ e. omega (arith, both .names .before)) });
+        links = λ k h less. first .frame n (both .names) k (record { lasts = inr (omega (arith, both .heads)); links = λ p m l. (λ e. omega arith, λ e. omega arith) });
+        store = λ k h. first .frame n (both .names) k (record { lasts = inr (omega (arith, both .names .before, low, small)); links = λ p m l. (λ e. omega (arith, low, small), λ e. omega (arith, low, small)) });
+      };
+}
 
 -- ---- a list that stands in the words
 
@@ -149,7 +166,7 @@ module _ {image : List ℕ} {arena : Arena} {work op : ℕ} {s : List ℕ} {z : 
     parents = λ p low less. site .parents _ (rows .inside _ (row-in stands p low less));
   }
 
-  module _ {x : places.List} {l : List ℕ} (rows : Rows image arena work op l) (stands : Stands arena s x l) where
+  module _ {isShape : Bool} {x : places.List} {l : List ℕ} (rows : Rows image arena work op l) (stands : Stands arena isShape s x l) where
     row-below : (p : ℕ) → x .start ≤ p → p < x .end → rowIn s (arena .store) p < countAt image selections
     row-below p low less = rows .inside _ (row-in (stands .rows) p low less)
 
@@ -174,18 +191,18 @@ module _ {image : List ℕ} {arena : Arena} {work op : ℕ} {s : List ℕ} {z : 
     column-3 p = ap (λ k. getD s k 0) (let e : arena .links + 4 * p + 3 ≡ min (arena .links) 4294967293 + 2 + 4 * p + 1 = omega (arith, site .regions .small) in e)
 
     -- its links lead where searches end
-    pub threaded : Threaded image s arena x
+    pub threaded : Threaded image s arena isShape x
     threaded = record {
       next-name = λ p low less. column-0 p ∙ stands .names .next p low less ∙ seek-cong _ _ (p + 1) (x .end) (λ q h l. name-class p q low less (omega arith) l);
       first-name = λ p low less. stands .names .first p low less ∙ seek-cong _ _ (x .start) p (λ q h l. name-class p q low less h (omega arith));
-      next-pair = λ p low less. column-2 p ∙ stands .pairs .next p low less ∙ seek-cong _ _ (p + 1) (x .end) (λ q h l. pair-class p q low less (omega arith) l);
-      first-pair = λ p low less. column-3 p ∙ stands .pairs .first p low less ∙ seek-cong _ _ (x .start) p (λ q h l. pair-class p q low less h (omega arith));
+      next-pair = λ by-pairs p low less. column-2 p ∙ stands .pairs by-pairs .next p low less ∙ seek-cong _ _ (p + 1) (x .end) (λ q h l. pair-class p q low less (omega arith) l);
+      first-pair = λ by-pairs p low less. column-3 p ∙ stands .pairs by-pairs .first p low less ∙ seek-cong _ _ (x .start) p (λ q h l. pair-class p q low less h (omega arith));
     }
 
     -- it stands where the words in front, its links and its rows stay
     pub stands-same : {s′ : List ℕ} → x .start ≤ x .end → length s′ ≡ length s → ((k : ℕ) → k < arena .marks → getD s′ k 0 ≡ getD s k 0)
         → ((k : ℕ) → arena .links ≤ k → k < arena .links + 4 * x .end → getD s′ k 0 ≡ getD s k 0)
-        → ((k : ℕ) → arena .store ≤ k → k < arena .store + x .end → getD s′ k 0 ≡ getD s k 0) → Stands arena s′ x l
+        → ((k : ℕ) → arena .store ≤ k → k < arena .store + x .end → getD s′ k 0 ≡ getD s k 0) → Stands arena isShape s′ x l
     stands-same {s′} ordered long front links store =
         let r = site .regions in
         let row : (p : ℕ) → x .start ≤ p → p < x .end → getD s′ (arena .store + p) 0 ≡ getD s (arena .store + p) 0 = λ p low less. store (arena .store + p) (omega arith) (omega arith) in
@@ -195,10 +212,10 @@ module _ {image : List ℕ} {arena : Arena} {work op : ℕ} {s : List ℕ} {z : 
               (λ p low less. front _ (omega (arith, row-below p low less, r .names, r .pairs, r .marks)))
               (λ p low less. (links (arena .links + 4 * p) (omega arith) (omega arith), links (arena .links + 4 * p + 1) (omega arith) (omega arith)))
               (stands .names);
-          pairs = linked-frame row
+          pairs = λ by-pairs. linked-frame row
               (λ p low less. front _ (omega (arith, row-below p low less, r .names, r .pairs, r .marks)))
               (λ p low less. (links _ (omega (arith, r .small)) (omega (arith, r .small)), links _ (omega (arith, r .small)) (omega (arith, r .small))))
-              (stands .pairs);
+              (stands .pairs by-pairs);
         }
 
   -- only words of the queue have changed
@@ -217,15 +234,15 @@ module _ {image : List ℕ} {arena : Arena} {work op : ℕ} {s : List ℕ} {z : 
         within = site .within;
       }
 
-  pub stands-queue : {s′ : List ℕ} {x : places.List} {l : List ℕ} → Outside (arena .queue) (arena .lasts - arena .queue) s s′ → Rows image arena work op l → x .start ≤ x .end
-      → Stands arena s x l → Stands arena s′ x l
+  pub stands-queue : {isShape : Bool} {s′ : List ℕ} {x : places.List} {l : List ℕ} → Outside (arena .queue) (arena .lasts - arena .queue) s s′ → Rows image arena work op l → x .start ≤ x .end
+      → Stands arena isShape s x l → Stands arena isShape s′ x l
   stands-queue o rows ordered stands =
       let r = site .regions in
       stands-same rows stands ordered (o .long) (λ k h. o .below k (omega (arith, r .queue))) (λ k h less. o .above k (omega (arith, r .lasts, r .heads, r .links)))
       (λ k h less. o .above k (omega (arith, r .lasts, r .heads, r .links, r .store)))
 
   -- a list that is known stays
-  pub stands-kept : {s′ : List ℕ} {z′ : states.Walk} {x : places.List} {l : List ℕ} → Kept image arena work op s s′ z z′ → Rows image arena work op l → Stands arena s x l → x .start ≤ x .end → x .end ≤ z .known
-      → Stands arena s′ x l
+  pub stands-kept : {isShape : Bool} {s′ : List ℕ} {z′ : states.Walk} {x : places.List} {l : List ℕ} → Kept image arena work op s s′ z z′ → Rows image arena work op l → Stands arena isShape s x l → x .start ≤ x .end → x .end ≤ z .known
+      → Stands arena isShape s′ x l
   stands-kept kept rows stands ordered stored =
       stands-same rows stands ordered (kept .long) (kept .parents) (λ k h less. kept .links k h (omega arith)) (λ k h less. kept .known k h (omega arith))

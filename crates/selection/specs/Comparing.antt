@@ -52,7 +52,7 @@ pub record ComparesPart (image s : List ℕ) (arena : Arena) (z : states.Walk) (
   pub same : r .reply .kind ≡ 0 → r ≡ z
   pub known : r .known ≡ z .known
   pub operation : r .reply .operation ≡ z .reply .operation
-  pub tells : (l rows : List ℕ) → Grounded (document image) image s (arena .store) (part .list) l → Threaded image s arena (part .list) → PartAt (document image) s (arena .store) l part rows
+  pub tells : (l rows : List ℕ) → Grounded (document image) image s (arena .store) (part .list) l → Threaded image s arena isShape (part .list) → PartAt (document image) isShape s (arena .store) l part rows
       → (ls : List (List ℕ)) (used : ℕ) → Holds s arena (z .reply .operation) z ls used
       → Tells s arena (z .reply .operation) r (compareFirst (passOf image isShape .clash) rows ls used)
 
@@ -70,8 +70,8 @@ fieldWords image arena x s row = cond (hasSet image row) (queueWords arena x s (
 
 -- r says that a part is one field without a set
 pub record Bare (image s : List ℕ) (arena : Arena) (part : Part) (r : Bool) : Type 0 where
-  pub alone : r ≡ true → (l rows : List ℕ) → Grounded (document image) image s (arena .store) (part .list) l → Threaded image s arena (part .list)
-      → PartAt (document image) s (arena .store) l part rows → rows ≡ rowIn s (arena .store) (part .first) ∷ []
+  pub alone : r ≡ true → (isShape : Bool) (l rows : List ℕ) → Grounded (document image) image s (arena .store) (part .list) l → Threaded image s arena isShape (part .list)
+      → PartAt (document image) isShape s (arena .store) l part rows → rows ≡ rowIn s (arena .store) (part .first) ∷ []
   pub leaf : r ≡ true → hasSet image (rowIn s (arena .store) (part .first)) ≡ false
 
 -- fields whose sets are queued behind others: what then stands there, and that only the queue's words changed
@@ -80,9 +80,9 @@ pub record Queues (image : List ℕ) (arena : Arena) (s s′ : List ℕ) (x x′
   pub frame : Outside (arena .queue) (arena .lasts - arena .queue) s s′
 
 -- where the list stands in the words, with room for the sets
-pub record CanQueue (image : List ℕ) (arena : Arena) (work op : ℕ) (s : List ℕ) (z : states.Walk) (x : places.List) (l : List ℕ) (e : Expansion) (sets rows : List ℕ) : Type 0 where
+pub record CanQueue (image : List ℕ) (arena : Arena) (work op : ℕ) (isShape : Bool) (s : List ℕ) (z : states.Walk) (x : places.List) (l : List ℕ) (e : Expansion) (sets rows : List ℕ) : Type 0 where
   pub site : Site image arena work op s z
-  pub stands : Stands arena s x l
+  pub stands : Stands arena isShape s x l
   pub ordered : x .start ≤ x .end
   pub listed : Rows image arena work op l
   pub queue : Stores s (arena .queue) (e .queued) sets
@@ -92,13 +92,13 @@ pub record QueuesSegment (image : List ℕ) (arena : Arena) (s s′ : List ℕ) 
   pub listed : e′ .listed ≡ e .listed
   pub number : e′ .number ≡ e .number
   pub long : length s′ ≡ length s
-  pub queues : (work op : ℕ) (z : states.Walk) (l sets : List ℕ) → x .start ≤ from → (from < x .end → member (document image) g (rowIn s (arena .store) from) ≡ true)
-      → Proper (document image) g → CanQueue image arena work op s z x l e sets (filter (member (document image) g) (onward x l from))
+  pub queues : (work op : ℕ) (isShape : Bool) (z : states.Walk) (l sets : List ℕ) → x .start ≤ from → (from < x .end → member (document image) g (rowIn s (arena .store) from) ≡ true)
+      → Proper (document image) isShape g → CanQueue image arena work op isShape s z x l e sets (filter (member (document image) g) (onward x l from))
       → Queues image arena s s′ e e′ sets (filter (member (document image) g) (onward x l from))
 
 pub record QueuesPart (image : List ℕ) (arena : Arena) (s s′ : List ℕ) (e e′ : Expansion) (part : Part) : Type 0 where
   pub listed : e′ .listed ≡ e .listed
   pub number : e′ .number ≡ e .number
   pub long : length s′ ≡ length s
-  pub queues : (work op : ℕ) (z : states.Walk) (l sets rows : List ℕ) → PartAt (document image) s (arena .store) l part rows
-      → CanQueue image arena work op s z (part .list) l e sets rows → Queues image arena s s′ e e′ sets rows
+  pub queues : (work op : ℕ) (isShape : Bool) (z : states.Walk) (l sets rows : List ℕ) → PartAt (document image) isShape s (arena .store) l part rows
+      → CanQueue image arena work op isShape s z (part .list) l e sets rows → Queues image arena s s′ e e′ sets rows

@@ -4,7 +4,7 @@
 --     FindsSubgroup .. and the others below: what the searches along links give
 use mathlib.Core.Path.{_≡_}
 use mathlib.Core.Logic.{_⊎_}
-use mathlib.Core.Bool.{Bool, true, cond, _&&_}
+use mathlib.Core.Bool.{Bool, true, false, cond, _&&_}
 use mathlib.Core.List.{List}
 use Prim.Native.Nat.{ℕ, _+_, _*_, _≤_, _<_}
 use lib.Dec.{eqb, ltb}
@@ -38,14 +38,15 @@ opensAt image s arena place = hasObjectParent image s (rowIn s (arena .store) pl
 -- ---- where the list is linked
 
 module _ (image s : List ℕ) (arena : Arena) where
-  pub record Threaded (x : places.List) : Type 0 where
+  -- in the shape pass by names alone
+  pub record Threaded (isShape : Bool) (x : places.List) : Type 0 where
     pub next-name : (p : ℕ) → x .start ≤ p → p < x .end
         → linkAt s arena p 0 ≡ memberPlace image s (arena .store) (nameSegment image s (arena .store) p) (p + 1) (x .end)
     pub first-name : (p : ℕ) → x .start ≤ p → p < x .end
         → linkAt s arena p 1 ≡ memberPlace image s (arena .store) (nameSegment image s (arena .store) p) (x .start) p
-    pub next-pair : (p : ℕ) → x .start ≤ p → p < x .end
+    pub next-pair : isShape ≡ false → (p : ℕ) → x .start ≤ p → p < x .end
         → linkAt s arena p 2 ≡ memberPlace image s (arena .store) (pairSegment image s (arena .store) p) (p + 1) (x .end)
-    pub first-pair : (p : ℕ) → x .start ≤ p → p < x .end
+    pub first-pair : isShape ≡ false → (p : ℕ) → x .start ≤ p → p < x .end
         → linkAt s arena p 3 ≡ memberPlace image s (arena .store) (pairSegment image s (arena .store) p) (x .start) p
 
   abbrev pub Follows : Segment → places.List → Type 0
@@ -56,16 +57,16 @@ module _ (image s : List ℕ) (arena : Arena) where
   -- from a place of the group of that name
   pub record FindsSubgroup (x : places.List) (from r : ℕ) : Type 0 where
     pub ahead : from ≤ r
-    pub found : (name : ℕ) → Threaded x → x .start ≤ from → (from < x .end → nameAt image s (arena .store) from ≡ name)
+    pub found : (name : ℕ) → Threaded false x → x .start ≤ from → (from < x .end → nameAt image s (arena .store) from ≡ name)
         → r ≡ subgroupPlace image s (arena .store) x name from
 
   pub record FindsOthers (x : places.List) (group r : ℕ) : Type 0 where
-    pub found : Threaded x → x .start ≤ group → r ≡ othersPlace image s (arena .store) x group
+    pub found : Threaded false x → x .start ≤ group → r ≡ othersPlace image s (arena .store) x group
 
   pub record FirstSubgroup (x : places.List) (group : ℕ) (r : Cursor) : Type 0 where
     pub same : r .group ≡ group
     pub below : group < x .end → r .first < x .end
-    pub is : Threaded x → x .start ≤ group → r ≡ firstSubgroup image s (arena .store) x group
+    pub is : Threaded false x → x .start ≤ group → r ≡ firstSubgroup image s (arena .store) x group
 
   -- a subgroup of a group, both of them open
   pub record Open (x : places.List) (c : Cursor) : Type 0 where
@@ -76,10 +77,10 @@ module _ (image s : List ℕ) (arena : Arena) where
 
   pub record LaterSubgroup (x : places.List) (c : Cursor) (r : ℕ) : Type 0 where
     pub ahead : r < x .end → c .first < r
-    pub is : Threaded x → Open x c → r ≡ laterSubgroup image s (arena .store) x c
+    pub is : Threaded false x → Open x c → r ≡ laterSubgroup image s (arena .store) x c
 
   -- a later subgroup, or a later group
   pub record NextSubgroup (x : places.List) (c r : Cursor) : Type 0 where
     pub below : r .group < x .end → r .first < x .end
     pub further : ((r .group ≡ c .group) × (c .first < r .first)) ⊎ (c .group < r .group)
-    pub is : Threaded x → Open x c → r ≡ nextSubgroup image s (arena .store) x c
+    pub is : Threaded false x → Open x c → r ≡ nextSubgroup image s (arena .store) x c

@@ -1,7 +1,7 @@
 -- The groups and subgroups of a list that stands in the store, by places. Parents stand in the words from 0 on, one for each row.
 -- Assumes nothing.
 use mathlib.Core.Path.{_≡_}
-use mathlib.Core.Bool.{Bool, true, cond, not, _&&_}
+use mathlib.Core.Bool.{Bool, true, false, cond, not, _&&_}
 use mathlib.Core.List.{List, _++_}
 use Prim.Native.Nat.{ℕ, _+_, _≤_, _<_}
 use lib.Dec.{eqb, ltb}
@@ -130,20 +130,20 @@ pub record Grounded (D : Document) (image s : List ℕ) (store : ℕ) (x : place
   pub objects : (t : ℕ) → eqb (typeKind image t) objectType ≡ D .isObject t
   pub parents : (p : ℕ) → x .start ≤ p → p < x .end → getD s (rowIn s store p) 0 ≡ D .parentOf (rowIn s store p)
 
--- the segments of parts: one parent is an object
-pub data Proper (D : Document) : Segment → Type 0 where
-  of-all : (name : ℕ) → Proper D (segment name everyParent 0)
-  of-object : (name parent : ℕ) → D .isObject parent ≡ true → Proper D (segment name oneParent parent)
-  of-others : (name : ℕ) → Proper D (segment name abstractParent 0)
+-- the segments of parts: one parent is an object, and in the shape pass there are segments of all parents alone
+pub data Proper (D : Document) (isShape : Bool) : Segment → Type 0 where
+  of-all : (name : ℕ) → Proper D isShape (segment name everyParent 0)
+  of-object : isShape ≡ false → (name parent : ℕ) → D .isObject parent ≡ true → Proper D isShape (segment name oneParent parent)
+  of-others : isShape ≡ false → (name : ℕ) → Proper D isShape (segment name abstractParent 0)
 
 -- a part of a list l that stands in the words: its first field is one of the front segment's, the next one, if there is one, of the
 -- back segment's, and its fields are these rows
-pub record PartAt (D : Document) (s : List ℕ) (store : ℕ) (l : List ℕ) (part : Part) (rows : List ℕ) : Type 0 where
+pub record PartAt (D : Document) (isShape : Bool) (s : List ℕ) (store : ℕ) (l : List ℕ) (part : Part) (rows : List ℕ) : Type 0 where
   pub from : part .list .start ≤ part .first
   pub below : part .first < part .list .end
   pub behind : part .list .start ≤ part .next
   pub heads : member D (part .front) (rowIn s store (part .first)) ≡ true
   pub starts : part .next < part .list .end → member D (part .back) (rowIn s store (part .next)) ≡ true
-  pub front-proper : Proper D (part .front)
-  pub back-proper : Proper D (part .back)
+  pub front-proper : Proper D isShape (part .front)
+  pub back-proper : Proper D isShape (part .back)
   pub fields : partRows D l part ≡ rows

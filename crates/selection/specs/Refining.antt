@@ -170,9 +170,9 @@ module _ (image : List ℕ) (arena : Arena) (work op : ℕ) where
   onePart P levels rows = compareFirst (P .clash) rows then lower P levels (setsBelow (document image) rows)
 
   -- a list that was entered: it stands in the store, and the step goes on as its walk
-  pub record Entered (P : Pass) (step : ℕ → Step) (s s′ : List ℕ) (z : states.Walk) (m : Met) : Type 0 where
+  pub record Entered (isShape : Bool) (step : ℕ → Step) (s s′ : List ℕ) (z : states.Walk) (m : Met) : Type 0 where
     pub list : List ℕ
-    pub stands : Stands arena s′ (m .list) list
+    pub stands : Stands arena isShape s′ (m .list) list
     pub ordered : m .list .start ≤ m .list .end
     pub rows : Rows list
     pub stored : m .list .end ≤ m .walk .known
@@ -181,12 +181,12 @@ module _ (image : List ℕ) (arena : Arena) (work op : ℕ) where
     pub goes : (ls : List (List ℕ)) (used : ℕ) → Holds s arena op z ls used
         → Holds s′ arena op (m .walk) (ls ++ list ∷ []) (used + suc (length list))
     pub same : (levels : ℕ) (ls : List (List ℕ)) (used : ℕ) → Holds s arena op z ls used
-        → step levels ls used ≡ walkList P levels list (ls ++ list ∷ []) (used + suc (length list))
+        → step levels ls used ≡ walkList (passOf image isShape) levels list (ls ++ list ∷ []) (used + suc (length list))
 
   -- what has been met: the step is done, or a list was entered
-  pub record Meets (P : Pass) (step : ℕ → Step) (s s′ : List ℕ) (z : states.Walk) (m : Met) : Type 0 where
+  pub record Meets (isShape : Bool) (step : ℕ → Step) (s s′ : List ℕ) (z : states.Walk) (m : Met) : Type 0 where
     pub done : m .deeper ≡ false → (levels : ℕ) → Refines (step levels) s s′ z (m .walk)
-    pub entered : m .deeper ≡ true → Entered P step s s′ z m
+    pub entered : m .deeper ≡ true → Entered isShape step s s′ z m
 
   -- sets that stand in the queue: what may be merged
   pub record Queued (s : List ℕ) (x : Expansion) (sets : List ℕ) : Type 0 where
@@ -196,27 +196,27 @@ module _ (image : List ℕ) (arena : Arena) (work op : ℕ) where
     pub hand : Every Hand sets
 
 -- merged sets are expanded, and their list is met
-pub record MeetsSets (image : List ℕ) (arena : Arena) (work : ℕ) (s s′ : List ℕ) (z : states.Walk) (x : Expansion) (m : Met) : Type 0 where
+pub record MeetsSets (image : List ℕ) (arena : Arena) (work : ℕ) (s s′ : List ℕ) (z : states.Walk) (x : Expansion) (isShape : Bool) (m : Met) : Type 0 where
   pub operation : m .walk .reply .operation ≡ z .reply .operation
   pub going : m .deeper ≡ true → m .walk .reply .kind ≡ 0
   pub ample : m .walk .reply .kind ≡ 0 → Ample work 0 (m .walk)
-  pub meets : (P : Pass) (sets : List ℕ) → Site image arena work (z .reply .operation) s z → Queued image arena work (z .reply .operation) s x sets
-      → Meets image arena work (z .reply .operation) P (λ levels. walk (document image) P work levels sets) s s′ z m
+  pub meets : (sets : List ℕ) → Site image arena work (z .reply .operation) s z → Queued image arena work (z .reply .operation) s x sets
+      → Meets image arena work (z .reply .operation) isShape (λ levels. walk (document image) (passOf image isShape) work levels sets) s s′ z m
 
 -- one part: compared, and its sets met
 pub record MeetsPart (image : List ℕ) (arena : Arena) (work : ℕ) (s s′ : List ℕ) (z : states.Walk) (part : Part) (isShape : Bool) (m : Met) : Type 0 where
   pub operation : m .walk .reply .operation ≡ z .reply .operation
   pub going : m .deeper ≡ true → m .walk .reply .kind ≡ 0
   pub ample : m .walk .reply .kind ≡ 0 → Ample work 0 (m .walk)
-  pub meets : (l rows : List ℕ) → Site image arena work (z .reply .operation) s z → Stands arena s (part .list) l → part .list .start ≤ part .list .end
-      → Rows image arena work (z .reply .operation) l → PartAt (document image) s (arena .store) l part rows → Rows image arena work (z .reply .operation) rows
-      → Meets image arena work (z .reply .operation) (passOf image isShape) (λ levels. onePart image arena work (z .reply .operation) (passOf image isShape) levels rows) s s′ z m
+  pub meets : (l rows : List ℕ) → Site image arena work (z .reply .operation) s z → Stands arena isShape s (part .list) l → part .list .start ≤ part .list .end
+      → Rows image arena work (z .reply .operation) l → PartAt (document image) isShape s (arena .store) l part rows → Rows image arena work (z .reply .operation) rows
+      → Meets image arena work (z .reply .operation) isShape (λ levels. onePart image arena work (z .reply .operation) (passOf image isShape) levels rows) s s′ z m
 
 -- the walk of a list
 pub record WalksList (image : List ℕ) (arena : Arena) (work : ℕ) (s s′ : List ℕ) (z : states.Walk) (x : places.List) (isShape : Bool) (levels : ℕ) (z′ : states.Walk) : Type 0 where
   pub long : length s′ ≡ length s
   pub operation : z′ .reply .operation ≡ z .reply .operation
   pub ample : z′ .reply .kind ≡ 0 → Ample work 0 z′
-  pub walks : (l : List ℕ) → Site image arena work (z .reply .operation) s z → Stands arena s x l → x .start ≤ x .end → x .end ≤ z .known
+  pub walks : (l : List ℕ) → Site image arena work (z .reply .operation) s z → Stands arena isShape s x l → x .start ≤ x .end → x .end ≤ z .known
       → Rows image arena work (z .reply .operation) l
       → Refines image arena work (z .reply .operation) (walkList image arena work (z .reply .operation) (passOf image isShape) levels l) s s′ z z′

@@ -1,4 +1,5 @@
 -- A list that stands in the store, with the links between its places. Assumes nothing.
+use mathlib.Core.Bool.{Bool, false}
 use mathlib.Core.List.{List}
 use mathlib.Core.Path.{_≡_}
 use Prim.Native.Nat.{ℕ, _+_, _*_, _≤_, _<_, min}
@@ -16,10 +17,11 @@ namesChain arena = record { classes = arena .names; lasts = arena .lasts; links 
 abbrev pub pairsChain : Arena → Chain
 pairsChain arena = record { classes = arena .pairs; lasts = arena .lasts; links = min (arena .links) 4294967293 + 2; store = arena .store }
 
-pub record Stands (arena : Arena) (s : List ℕ) (x : places.List) (l : List ℕ) : Type 0 where
+-- by pairs only where the shape pass is over
+pub record Stands (arena : Arena) (isShape : Bool) (s : List ℕ) (x : places.List) (l : List ℕ) : Type 0 where
   pub rows : AtHand s (arena .store) x l
   pub names : Linked s (namesChain arena) x
-  pub pairs : Linked s (pairsChain arena) x
+  pub pairs : isShape ≡ false → Linked s (pairsChain arena) x
 
 -- what stays when a list is linked that begins at `from`: all but the last places of classes, and its own links and later ones
 pub record LinkFrame (arena : Arena) (from : ℕ) (s s′ : List ℕ) : Type 0 where
@@ -34,9 +36,9 @@ pub record LinkableBoth (arena : Arena) (n : ℕ) (s : List ℕ) (x : places.Lis
   pub heads : arena .lasts + n ≤ arena .heads
   pub small : arena .links ≤ 4294967293
 
--- a list is linked
-pub record Stood (arena : Arena) (s s′ : List ℕ) (x : places.List) : Type 0 where
+-- a list is linked, by pairs only where the shape pass is over
+pub record Stood (arena : Arena) (isShape : Bool) (s s′ : List ℕ) (x : places.List) : Type 0 where
   pub long : length s′ ≡ length s
   pub names : (n : ℕ) → LinkableBoth arena n s x → Linked s′ (namesChain arena) x
-  pub pairs : (n : ℕ) → LinkableBoth arena n s x → Linked s′ (pairsChain arena) x
+  pub pairs : (n : ℕ) → LinkableBoth arena n s x → isShape ≡ false → Linked s′ (pairsChain arena) x
   pub frame : (n : ℕ) → LinkableBoth arena n s x → LinkFrame arena (x .start) s s′

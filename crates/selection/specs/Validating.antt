@@ -30,12 +30,12 @@ pub record Within (image : List ℕ) (arena : Arena) (work : ℕ) (s s′ : List
   pub beyond : (k : ℕ) → arena .store + work + 1 + countAt image selections ≤ k → getD s′ k 0 ≡ getD s k 0
 
 -- the operation's own set is met, with nothing known
-pub record MeetsOperation (image : List ℕ) (arena : Arena) (work operation : ℕ) (s s′ : List ℕ) (z : states.Walk) (m : Met) : Type 0 where
+pub record MeetsOperation (image : List ℕ) (arena : Arena) (work operation : ℕ) (s s′ : List ℕ) (z : states.Walk) (isShape : Bool) (m : Met) : Type 0 where
   pub same : m .walk .reply .operation ≡ z .reply .operation
   pub going : m .deeper ≡ true → m .walk .reply .kind ≡ 0
   pub ample : m .walk .reply .kind ≡ 0 → Ample work 0 (m .walk)
-  pub meets : (P : Pass) → Site image arena work (z .reply .operation) s z → operation ≡ z .reply .operation → operation < countAt image operations
-      → Meets image arena work (z .reply .operation) P (λ levels. walk (document image) P work levels (operation ∷ [])) s s′ (forgotten z) m
+  pub meets : Site image arena work (z .reply .operation) s z → operation ≡ z .reply .operation → operation < countAt image operations
+      → Meets image arena work (z .reply .operation) isShape (λ levels. walk (document image) (passOf image isShape) work levels (operation ∷ [])) s s′ (forgotten z) m
 
 -- a pass over the operation
 pub record Runs (image : List ℕ) (arena : Arena) (work operation : ℕ) (s s′ : List ℕ) (z : states.Walk) (isShape : Bool) (z′ : states.Walk) : Type 0 where

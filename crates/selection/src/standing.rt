@@ -31,9 +31,13 @@ fn pairs_chain(arena: Arena) -> Chain
     }
 }
 
-pub fn link_list(s: &mut [u32], arena: Arena, list: List)
-    ensures { λ _. ⌜ Stood arena (now (s .entry)) (now (s .exit)) list ⌝ }
+// By name and parent only where the shape pass is over, which goes by names alone.
+pub fn link_list(s: &mut [u32], arena: Arena, list: List, shape: bool)
+    ensures { λ _. ⌜ Stood arena shape (now (s .entry)) (now (s .exit)) list ⌝ }
 {
     link(s, names_chain(arena), list);
+    if shape {
+        return;
+    }
     link(s, pairs_chain(arena), list);
 }

@@ -115,9 +115,17 @@ fn begin_expansion(work: u32, walk: Walk) -> Expansion
 }
 
 // The queued sets are expanded, and their list is met; one that is new and paid is linked.
-fn meet_sets(image: &[u32], s: &mut [u32], arena: Arena, work: u32, walk: Walk, x: Expansion) -> Met
+fn meet_sets(
+    image: &[u32],
+    s: &mut [u32],
+    arena: Arena,
+    work: u32,
+    walk: Walk,
+    x: Expansion,
+    shape: bool,
+) -> Met
     requires { ⌜ Ample work 0 walk × Begun walk x ⌝ }
-    ensures { λ r. ⌜ MeetsSets (now (image .entry)) arena work (now (s .entry)) (now (s .exit)) walk x r ⌝ }
+    ensures { λ r. ⌜ MeetsSets (now (image .entry)) arena work (now (s .entry)) (now (s .exit)) walk x shape r ⌝ }
 {
     let start = x.listed;
     let end = expand_selections(image, s, arena, x);
@@ -127,7 +135,7 @@ fn meet_sets(image: &[u32], s: &mut [u32], arena: Arena, work: u32, walk: Walk, 
     next.expansions = number;
     let met = meet_list(s, arena, work, next, list);
     if met.deeper {
-        link_list(s, arena, met.list);
+        link_list(s, arena, met.list, shape);
     }
     met
 }
@@ -341,7 +349,7 @@ fn meet_part(
             deeper: false,
         };
     }
-    meet_sets(image, s, arena, work, compared, queued)
+    meet_sets(image, s, arena, work, compared, queued, shape)
 }
 
 // The shape pass over a list, group by group, each with all that is below it. `level` falls.
@@ -429,14 +437,15 @@ fn meet_operation(
     work: u32,
     walk: Walk,
     operation: u32,
+    shape: bool,
 ) -> Met
     requires { ⌜ Ample work 0 walk ⌝ }
-    ensures { λ r. ⌜ MeetsOperation (now (image .entry)) arena work operation (now (s .entry)) (now (s .exit)) walk r ⌝ }
+    ensures { λ r. ⌜ MeetsOperation (now (image .entry)) arena work operation (now (s .entry)) (now (s .exit)) walk shape r ⌝ }
 {
     let mut next = walk;
     next.known = 0;
     let queued = queue_set(s, arena, begin_expansion(work, next), operation);
-    meet_sets(image, s, arena, work, next, queued)
+    meet_sets(image, s, arena, work, next, queued, shape)
 }
 
 fn shape_pass(
@@ -451,7 +460,7 @@ fn shape_pass(
     ensures { λ r. ⌜ Runs (now (image .entry)) arena work operation (now (s .entry)) (now (s .exit)) walk true r ⌝ }
 {
     forget(s, arena);
-    let met = meet_operation(image, s, arena, work, walk, operation);
+    let met = meet_operation(image, s, arena, work, walk, operation, true);
     let next = met.walk;
     if met.deeper {
         return same_response_shape_by_name(image, s, arena, work, next, met.list, LEVELS);
@@ -471,7 +480,7 @@ fn parent_pass(
     ensures { λ r. ⌜ Runs (now (image .entry)) arena work operation (now (s .entry)) (now (s .exit)) walk false r ⌝ }
 {
     forget(s, arena);
-    let met = meet_operation(image, s, arena, work, walk, operation);
+    let met = meet_operation(image, s, arena, work, walk, operation, false);
     let next = met.walk;
     if met.deeper {
         return same_for_common_parents_by_name(image, s, arena, work, next, met.list, LEVELS);
