@@ -41,7 +41,7 @@ ghost use mathlib.Core.Bool.{true, false};
 ghost use Prim.Native.Nat.{_+_, _<_};
 ghost use Rattle.selection.specs.Refining.{charged, MeetsList, Ample, Begun, MeetsSets, MeetsPart, WalksList, passOf};
 ghost use Rattle.selection.specs.Validating.{MeetsOperation, Runs, Validates};
-ghost use Rattle.selection.specs.Comparing.{kindOfClash, conflicted, ComparesSegment, ComparesPart, Bare, fieldNext, fieldWords, QueuesSegment, QueuesPart};
+ghost use Rattle.selection.specs.Comparing.{kindOfClash, conflicted, FindsDifference, ComparesPart, Bare, fieldNext, fieldWords, QueuesSegment, QueuesPart};
 
 // One more than the links of the document: a set lies fewer links below the operation's.
 const LEVELS: u32 = 502;
@@ -51,6 +51,12 @@ pub struct Met {
     pub walk: Walk,
     pub list: List,
     pub deeper: bool,
+}
+
+// What a field conflicts in with another, 0 where it does not, and the other's row.
+pub struct Difference {
+    pub kind: u32,
+    pub row: u32,
 }
 
 // One unit and as many as there are rows are charged, or the reply is 17 where that would pass the budget.
@@ -190,26 +196,25 @@ fn compare_segment(
     image: &[u32],
     s: &[u32],
     arena: Arena,
-    walk: Walk,
     list: List,
     segment: Segment,
     shape: bool,
     a: u32,
     from: u32,
-) -> Walk
-    ensures { λ r. ⌜ ComparesSegment (now (image .entry)) (now (s .entry)) arena walk list segment shape a from r ⌝ }
+) -> Difference
+    ensures { λ r. ⌜ FindsDifference (now (image .entry)) (now (s .entry)) arena list segment shape a from r ⌝ }
 {
     let end = list.end;
     let mut place = from;
     while place < end {
-        let b = row_at(s, arena, place);
-        let kind = clash(image, shape, a, b);
+        let row = row_at(s, arena, place);
+        let kind = clash(image, shape, a, row);
         if kind != 0 {
-            return conflict(walk, kind, a, b);
+            return Difference { kind, row };
         }
         place = follow(s, arena, segment.kind, place, end);
     }
-    walk
+    Difference { kind: 0, row: 0 }
 }
 
 // The first field of a part against each other, in order.
@@ -219,31 +224,16 @@ fn compare_part(image: &[u32], s: &[u32], arena: Arena, walk: Walk, part: Part, 
     let a = row_at(s, arena, part.first);
     let kind = part.front.kind;
     let second = follow(s, arena, kind, part.first, part.list.end);
-    let front = compare_segment(
-        image,
-        s,
-        arena,
-        walk,
-        part.list,
-        part.front,
-        shape,
-        a,
-        second,
-    );
-    if front.reply.kind != 0 {
-        return front;
+    let list = part.list;
+    let front = compare_segment(image, s, arena, list, part.front, shape, a, second);
+    if front.kind != 0 {
+        return conflict(walk, front.kind, a, front.row);
     }
-    compare_segment(
-        image,
-        s,
-        arena,
-        front,
-        part.list,
-        part.back,
-        shape,
-        a,
-        part.next,
-    )
+    let back = compare_segment(image, s, arena, list, part.back, shape, a, part.next);
+    if back.kind != 0 {
+        return conflict(walk, back.kind, a, back.row);
+    }
+    walk
 }
 
 // The set of a field is queued, if it has one that is not empty.
@@ -324,13 +314,6 @@ fn meet_part(
     ensures { λ r. ⌜ MeetsPart (now (image .entry)) arena work (now (s .entry)) (now (s .exit)) walk part shape r ⌝ }
 {
     let list = part.list;
-    if is_bare(image, &s[..], arena, part) {
-        return Met {
-            walk,
-            list,
-            deeper: false,
-        };
-    }
     let compared = compare_part(image, &s[..], arena, walk, part, shape);
     let kind = compared.reply.kind;
     if kind != 0 {
@@ -350,6 +333,45 @@ fn meet_part(
         };
     }
     meet_sets(image, s, arena, work, compared, queued, shape)
+}
+
+// A group, in the shape pass; one field without a set is passed over.
+fn meet_group(image: &[u32], s: &mut [u32], arena: Arena, work: u32, walk: Walk, part: Part) -> Met
+    requires { ⌜ Ample work 0 walk ⌝ }
+    ensures { λ r. ⌜ MeetsPart (now (image .entry)) arena work (now (s .entry)) (now (s .exit)) walk part true r ⌝ }
+{
+    let list = part.list;
+    if is_bare(image, &s[..], arena, part) {
+        return Met {
+            walk,
+            list,
+            deeper: false,
+        };
+    }
+    meet_part(image, s, arena, work, walk, part, true)
+}
+
+// A subgroup, in the parent pass; one field without a set is passed over.
+fn meet_subgroup(
+    image: &[u32],
+    s: &mut [u32],
+    arena: Arena,
+    work: u32,
+    walk: Walk,
+    part: Part,
+) -> Met
+    requires { ⌜ Ample work 0 walk ⌝ }
+    ensures { λ r. ⌜ MeetsPart (now (image .entry)) arena work (now (s .entry)) (now (s .exit)) walk part false r ⌝ }
+{
+    let list = part.list;
+    if is_bare(image, &s[..], arena, part) {
+        return Met {
+            walk,
+            list,
+            deeper: false,
+        };
+    }
+    meet_part(image, s, arena, work, walk, part, false)
 }
 
 // The shape pass over a list, group by group, each with all that is below it. `level` falls.
@@ -373,7 +395,7 @@ fn same_response_shape_by_name(
     let mut place = find_group(&s[..], arena, list, list.start);
     while place < end {
         let part = group_part(image, &s[..], arena, list, place);
-        let met = meet_part(image, s, arena, work, next, part, true);
+        let met = meet_group(image, s, arena, work, next, part);
         next = met.walk;
         if met.deeper {
             next = same_response_shape_by_name(image, s, arena, work, next, met.list, level - 1);
@@ -408,7 +430,7 @@ fn same_for_common_parents_by_name(
     let mut at = first_subgroup(image, &s[..], arena, list, group);
     while at.group < end {
         let part = subgroup_part(image, &s[..], arena, list, at);
-        let met = meet_part(image, s, arena, work, next, part, false);
+        let met = meet_subgroup(image, s, arena, work, next, part);
         next = met.walk;
         if met.deeper {
             next = same_for_common_parents_by_name(

@@ -19,7 +19,7 @@ use Rattle.selection.proofs.groups.find_group.Reads as find-group-reads
 use Rattle.selection.proofs.groups.first_subgroup.Reads as first-subgroup-reads
 use Rattle.selection.proofs.groups.next_subgroup.Reads as next-subgroup-reads
 use Rattle.selection.proofs.groups.subgroup_part.Reads as subgroup-part-reads
-use Rattle.selection.proofs.walk.meet_part.Reads as meet-part-reads
+use Rattle.selection.proofs.walk.meet_subgroup.Reads as meet-subgroup-reads
 use Rattle.selection.proofs.walk.+same_for_common_parents_by_name.{statement}
 use Rattle.selection.proofs.walk.+same_for_common_parents_by_name.Tie.{close}
 
@@ -56,8 +56,8 @@ same-for-common-parents-by-name-returns :
       first-subgroup-reads.Learnt,
       subgroup-part-reads.Asked,
       subgroup-part-reads.Learnt,
-      meet-part-reads.Asked,
-      meet-part-reads.Learnt,
+      meet-subgroup-reads.Asked,
+      meet-subgroup-reads.Learnt,
       same-for-common-parents-by-name-below t,
       same-for-common-parents-by-name.Post,
       next-subgroup-reads.Asked,
@@ -77,8 +77,8 @@ same-for-common-parents-by-name-find-group-requires :
       first-subgroup-reads.Learnt,
       subgroup-part-reads.Asked,
       subgroup-part-reads.Learnt,
-      meet-part-reads.Asked,
-      meet-part-reads.Learnt,
+      meet-subgroup-reads.Asked,
+      meet-subgroup-reads.Learnt,
       same-for-common-parents-by-name-below t,
       same-for-common-parents-by-name.Post,
       next-subgroup-reads.Asked,
@@ -98,8 +98,8 @@ same-for-common-parents-by-name-first-subgroup-requires :
       first-subgroup-reads.Learnt,
       subgroup-part-reads.Asked,
       subgroup-part-reads.Learnt,
-      meet-part-reads.Asked,
-      meet-part-reads.Learnt,
+      meet-subgroup-reads.Asked,
+      meet-subgroup-reads.Learnt,
       same-for-common-parents-by-name-below t,
       same-for-common-parents-by-name.Post,
       next-subgroup-reads.Asked,
@@ -119,8 +119,8 @@ same-for-common-parents-by-name-loop-holds :
       first-subgroup-reads.Learnt,
       subgroup-part-reads.Asked,
       subgroup-part-reads.Learnt,
-      meet-part-reads.Asked,
-      meet-part-reads.Learnt,
+      meet-subgroup-reads.Asked,
+      meet-subgroup-reads.Learnt,
       same-for-common-parents-by-name-below t,
       same-for-common-parents-by-name.Post,
       next-subgroup-reads.Asked,
@@ -142,8 +142,8 @@ same-for-common-parents-by-name-subgroup-part-requires :
       first-subgroup-reads.Learnt,
       subgroup-part-reads.Asked,
       subgroup-part-reads.Learnt,
-      meet-part-reads.Asked,
-      meet-part-reads.Learnt,
+      meet-subgroup-reads.Asked,
+      meet-subgroup-reads.Learnt,
       same-for-common-parents-by-name-below t,
       same-for-common-parents-by-name.Post,
       next-subgroup-reads.Asked,
@@ -155,16 +155,16 @@ same-for-common-parents-by-name-subgroup-part-requires :
     same-for-common-parents-by-name-μ-loop
 same-for-common-parents-by-name-subgroup-part-requires t c κs = tt
 
-same-for-common-parents-by-name-meet-part-requires :
-    (t : ℕ) → same-for-common-parents-by-name-lts.Need-meet-part-requires (
+same-for-common-parents-by-name-meet-subgroup-requires :
+    (t : ℕ) → same-for-common-parents-by-name-lts.Need-meet-subgroup-requires (
       find-group-reads.Asked,
       find-group-reads.Learnt,
       first-subgroup-reads.Asked,
       first-subgroup-reads.Learnt,
       subgroup-part-reads.Asked,
       subgroup-part-reads.Learnt,
-      meet-part-reads.Asked,
-      meet-part-reads.Learnt,
+      meet-subgroup-reads.Asked,
+      meet-subgroup-reads.Learnt,
       same-for-common-parents-by-name-below t,
       same-for-common-parents-by-name.Post,
       next-subgroup-reads.Asked,
@@ -174,7 +174,7 @@ same-for-common-parents-by-name-meet-part-requires :
     same-for-common-parents-by-name.Post
     same-for-common-parents-by-name-Inv-loop
     same-for-common-parents-by-name-μ-loop
-same-for-common-parents-by-name-meet-part-requires t c κs = c .before .before .before .before .before .loop .inv .1 .0
+same-for-common-parents-by-name-meet-subgroup-requires t c κs = c .before .before .before .before .before .loop .inv .1 .0
 
 same-for-common-parents-by-name-sub-same-for-common-parents-by-name :
     (t : ℕ) → same-for-common-parents-by-name-lts.Need-sub-same-for-common-parents-by-name (
@@ -184,8 +184,8 @@ same-for-common-parents-by-name-sub-same-for-common-parents-by-name :
       first-subgroup-reads.Learnt,
       subgroup-part-reads.Asked,
       subgroup-part-reads.Learnt,
-      meet-part-reads.Asked,
-      meet-part-reads.Learnt,
+      meet-subgroup-reads.Asked,
+      meet-subgroup-reads.Learnt,
       same-for-common-parents-by-name-below t,
       same-for-common-parents-by-name.Post,
       next-subgroup-reads.Asked,
@@ -205,8 +205,8 @@ same-for-common-parents-by-name-same-for-common-parents-by-name-requires :
       first-subgroup-reads.Learnt,
       subgroup-part-reads.Asked,
       subgroup-part-reads.Learnt,
-      meet-part-reads.Asked,
-      meet-part-reads.Learnt,
+      meet-subgroup-reads.Asked,
+      meet-subgroup-reads.Learnt,
       same-for-common-parents-by-name-below t,
       same-for-common-parents-by-name.Post,
       next-subgroup-reads.Asked,
@@ -216,7 +216,7 @@ same-for-common-parents-by-name-same-for-common-parents-by-name-requires :
     same-for-common-parents-by-name.Post
     same-for-common-parents-by-name-Inv-loop
     same-for-common-parents-by-name-μ-loop
-same-for-common-parents-by-name-same-for-common-parents-by-name-requires t c κs = (omega (arith, c .before .before .before .before .before .before .before .before .before .before .before .before .before .before .before .before .if1 .left, c .before .before .before .before .before .before .before .before .before .before .before .before .before .before .before .before .before .before .before .pre .0), c .before .before .before .before .before .meet-part .ensures .ample (c .before .before .before .before .before .meet-part .ensures .going (c .before .if3 .taken)))
+same-for-common-parents-by-name-same-for-common-parents-by-name-requires t c κs = (omega (arith, c .before .before .before .before .before .before .before .before .before .before .before .before .before .before .before .before .if1 .left, c .before .before .before .before .before .before .before .before .before .before .before .before .before .before .before .before .before .before .before .pre .0), c .before .before .before .before .before .meet-subgroup .ensures .ample (c .before .before .before .before .before .meet-subgroup .ensures .going (c .before .if3 .taken)))
 
 same-for-common-parents-by-name-same-length :
     (t : ℕ) → same-for-common-parents-by-name-lts.Need-same-length (
@@ -226,8 +226,8 @@ same-for-common-parents-by-name-same-length :
       first-subgroup-reads.Learnt,
       subgroup-part-reads.Asked,
       subgroup-part-reads.Learnt,
-      meet-part-reads.Asked,
-      meet-part-reads.Learnt,
+      meet-subgroup-reads.Asked,
+      meet-subgroup-reads.Learnt,
       same-for-common-parents-by-name-below t,
       same-for-common-parents-by-name.Post,
       next-subgroup-reads.Asked,
@@ -240,8 +240,8 @@ same-for-common-parents-by-name-same-length :
 same-for-common-parents-by-name-same-length t c =
     let a = c .before .before .before .before .before .before .before .before .before .before .before .before .before .before .before .before .before .before .before .before .args in
     let at-loop = c .before .before .before .before .before .before .before .before .before .before .before .before .loop in
-    let met = c .before .before .before .before .before .before .meet-part .ensures in
-    let long = c .before .before .before .before .before .before .meet-part .kept .1 .0 in
+    let met = c .before .before .before .before .before .before .meet-subgroup .ensures in
+    let long = c .before .before .before .before .before .before .meet-subgroup .kept .1 .0 in
     let step : Stepped (a .image .now) (a .arena) (a .work) (at-loop .s) (c .before .before .if3 .s) (at-loop .next) (c .before .before .before .before .before .before .before .before .subgroup-part .result) false (a .level - 1) (c .before .before .if3 .next) =
     ⊎-elim (λ h. stepped-as (h .5) (h .6) (stepped-deeper long met (h .0 .taken) (h .2 .ensures))) (λ h. stepped-as (h .1) (h .2) (stepped-flat long met (a .level - 1) (h .0 .left))) (c .before .before .if3 .came) in
     step .long ∙ at-loop .inv .0 .long
@@ -254,8 +254,8 @@ same-for-common-parents-by-name-returns-2 :
       first-subgroup-reads.Learnt,
       subgroup-part-reads.Asked,
       subgroup-part-reads.Learnt,
-      meet-part-reads.Asked,
-      meet-part-reads.Learnt,
+      meet-subgroup-reads.Asked,
+      meet-subgroup-reads.Learnt,
       same-for-common-parents-by-name-below t,
       same-for-common-parents-by-name.Post,
       next-subgroup-reads.Asked,
@@ -268,8 +268,8 @@ same-for-common-parents-by-name-returns-2 :
 same-for-common-parents-by-name-returns-2 t c =
     let a = c .before .before .before .before .before .before .before .before .before .before .before .before .before .before .before .before .before .before .before .before .args in
     let at-loop = c .before .before .before .before .before .before .before .before .before .before .before .before .loop in
-    let met = c .before .before .before .before .before .before .meet-part .ensures in
-    let long = c .before .before .before .before .before .before .meet-part .kept .1 .0 in
+    let met = c .before .before .before .before .before .before .meet-subgroup .ensures in
+    let long = c .before .before .before .before .before .before .meet-subgroup .kept .1 .0 in
     let step : Stepped (a .image .now) (a .arena) (a .work) (at-loop .s) (c .before .before .if3 .s) (at-loop .next) (c .before .before .before .before .before .before .before .before .subgroup-part .result) false (a .level - 1) (c .before .before .if3 .next) =
     ⊎-elim (λ h. stepped-as (h .5) (h .6) (stepped-deeper long met (h .0 .taken) (h .2 .ensures))) (λ h. stepped-as (h .1) (h .2) (stepped-flat long met (a .level - 1) (h .0 .left))) (c .before .before .if3 .came) in
     loop-stop (parent-turn (at-loop .at) (at-loop .inv .0) (at-loop .inv .1 .0) (c .before .before .before .before .before .before .before .before .before .before .if2 .taken) (c .before .before .before .before .before .before .before .before .subgroup-part .ensures) step) (a .level) (omega (arith, c .before .before .before .before .before .before .before .before .before .before .before .before .before .before .before .before .before .if1 .left)) (c .if4 .taken)
@@ -282,8 +282,8 @@ same-for-common-parents-by-name-next-subgroup-requires :
       first-subgroup-reads.Learnt,
       subgroup-part-reads.Asked,
       subgroup-part-reads.Learnt,
-      meet-part-reads.Asked,
-      meet-part-reads.Learnt,
+      meet-subgroup-reads.Asked,
+      meet-subgroup-reads.Learnt,
       same-for-common-parents-by-name-below t,
       same-for-common-parents-by-name.Post,
       next-subgroup-reads.Asked,
@@ -303,8 +303,8 @@ same-for-common-parents-by-name-loop-less :
       first-subgroup-reads.Learnt,
       subgroup-part-reads.Asked,
       subgroup-part-reads.Learnt,
-      meet-part-reads.Asked,
-      meet-part-reads.Learnt,
+      meet-subgroup-reads.Asked,
+      meet-subgroup-reads.Learnt,
       same-for-common-parents-by-name-below t,
       same-for-common-parents-by-name.Post,
       next-subgroup-reads.Asked,
@@ -326,8 +326,8 @@ same-for-common-parents-by-name-loop-again :
       first-subgroup-reads.Learnt,
       subgroup-part-reads.Asked,
       subgroup-part-reads.Learnt,
-      meet-part-reads.Asked,
-      meet-part-reads.Learnt,
+      meet-subgroup-reads.Asked,
+      meet-subgroup-reads.Learnt,
       same-for-common-parents-by-name-below t,
       same-for-common-parents-by-name.Post,
       next-subgroup-reads.Asked,
@@ -340,8 +340,8 @@ same-for-common-parents-by-name-loop-again :
 same-for-common-parents-by-name-loop-again t c =
     let a = c .before .before .before .before .before .before .before .before .before .before .before .before .before .before .before .before .before .before .before .before .before .before .args in
     let at-loop = c .before .before .before .before .before .before .before .before .before .before .before .before .before .before .loop in
-    let met = c .before .before .before .before .before .before .before .before .meet-part .ensures in
-    let long = c .before .before .before .before .before .before .before .before .meet-part .kept .1 .0 in
+    let met = c .before .before .before .before .before .before .before .before .meet-subgroup .ensures in
+    let long = c .before .before .before .before .before .before .before .before .meet-subgroup .kept .1 .0 in
     let step : Stepped (a .image .now) (a .arena) (a .work) (at-loop .s) (c .before .before .before .before .if3 .s) (at-loop .next) (c .before .before .before .before .before .before .before .before .before .before .subgroup-part .result) false (a .level - 1) (c .before .before .before .before .if3 .next) =
     ⊎-elim (λ h. stepped-as (h .5) (h .6) (stepped-deeper long met (h .0 .taken) (h .2 .ensures))) (λ h. stepped-as (h .1) (h .2) (stepped-flat long met (a .level - 1) (h .0 .left))) (c .before .before .before .before .if3 .came) in
     let turned = parent-turn (at-loop .at) (at-loop .inv .0) (at-loop .inv .1 .0) (c .before .before .before .before .before .before .before .before .before .before .before .before .if2 .taken) (c .before .before .before .before .before .before .before .before .before .before .subgroup-part .ensures) step in
@@ -355,8 +355,8 @@ same-for-common-parents-by-name-same-length-2 :
       first-subgroup-reads.Learnt,
       subgroup-part-reads.Asked,
       subgroup-part-reads.Learnt,
-      meet-part-reads.Asked,
-      meet-part-reads.Learnt,
+      meet-subgroup-reads.Asked,
+      meet-subgroup-reads.Learnt,
       same-for-common-parents-by-name-below t,
       same-for-common-parents-by-name.Post,
       next-subgroup-reads.Asked,
@@ -376,8 +376,8 @@ same-for-common-parents-by-name-returns-3 :
       first-subgroup-reads.Learnt,
       subgroup-part-reads.Asked,
       subgroup-part-reads.Learnt,
-      meet-part-reads.Asked,
-      meet-part-reads.Learnt,
+      meet-subgroup-reads.Asked,
+      meet-subgroup-reads.Learnt,
       same-for-common-parents-by-name-below t,
       same-for-common-parents-by-name.Post,
       next-subgroup-reads.Asked,
@@ -398,8 +398,8 @@ pub +same-for-common-parents-by-name-spec : {M : Type 1} → statement M
       first-subgroup-reads.Learnt,
       subgroup-part-reads.Asked,
       subgroup-part-reads.Learnt,
-      meet-part-reads.Asked,
-      meet-part-reads.Learnt,
+      meet-subgroup-reads.Asked,
+      meet-subgroup-reads.Learnt,
       same-for-common-parents-by-name-below t,
       same-for-common-parents-by-name.Post,
       next-subgroup-reads.Asked,
@@ -414,7 +414,7 @@ pub +same-for-common-parents-by-name-spec : {M : Type 1} → statement M
     (same-for-common-parents-by-name-first-subgroup-requires t)
     (same-for-common-parents-by-name-loop-holds t)
     (same-for-common-parents-by-name-subgroup-part-requires t)
-    (same-for-common-parents-by-name-meet-part-requires t)
+    (same-for-common-parents-by-name-meet-subgroup-requires t)
     (same-for-common-parents-by-name-sub-same-for-common-parents-by-name t)
     (same-for-common-parents-by-name-same-for-common-parents-by-name-requires t)
     (same-for-common-parents-by-name-same-length t)

@@ -16,7 +16,7 @@ use Rattle.selection.proofs.walk.same_response_shape_by_name.Kinds as s
 use Rattle.selection.proofs.walk.+same_response_shape_by_name.Lts-same_response_shape_by_name as same-response-shape-by-name-lts
 use Rattle.selection.proofs.groups.find_group.Reads as find-group-reads
 use Rattle.selection.proofs.groups.group_part.Reads as group-part-reads
-use Rattle.selection.proofs.walk.meet_part.Reads as meet-part-reads
+use Rattle.selection.proofs.walk.meet_group.Reads as meet-group-reads
 use Rattle.selection.proofs.walk.+same_response_shape_by_name.{statement}
 use Rattle.selection.proofs.walk.+same_response_shape_by_name.Tie.{close}
 
@@ -50,8 +50,8 @@ same-response-shape-by-name-returns : (t : ℕ) → same-response-shape-by-name-
   find-group-reads.Learnt,
   group-part-reads.Asked,
   group-part-reads.Learnt,
-  meet-part-reads.Asked,
-  meet-part-reads.Learnt,
+  meet-group-reads.Asked,
+  meet-group-reads.Learnt,
   same-response-shape-by-name-below t,
   same-response-shape-by-name.Post,
 )
@@ -67,8 +67,8 @@ same-response-shape-by-name-find-group-requires :
       find-group-reads.Learnt,
       group-part-reads.Asked,
       group-part-reads.Learnt,
-      meet-part-reads.Asked,
-      meet-part-reads.Learnt,
+      meet-group-reads.Asked,
+      meet-group-reads.Learnt,
       same-response-shape-by-name-below t,
       same-response-shape-by-name.Post,
     )
@@ -83,8 +83,8 @@ same-response-shape-by-name-loop-holds : (t : ℕ) → same-response-shape-by-na
   find-group-reads.Learnt,
   group-part-reads.Asked,
   group-part-reads.Learnt,
-  meet-part-reads.Asked,
-  meet-part-reads.Learnt,
+  meet-group-reads.Asked,
+  meet-group-reads.Learnt,
   same-response-shape-by-name-below t,
   same-response-shape-by-name.Post,
 )
@@ -100,8 +100,8 @@ same-response-shape-by-name-group-part-requires :
       find-group-reads.Learnt,
       group-part-reads.Asked,
       group-part-reads.Learnt,
-      meet-part-reads.Asked,
-      meet-part-reads.Learnt,
+      meet-group-reads.Asked,
+      meet-group-reads.Learnt,
       same-response-shape-by-name-below t,
       same-response-shape-by-name.Post,
     )
@@ -111,14 +111,14 @@ same-response-shape-by-name-group-part-requires :
     same-response-shape-by-name-μ-loop
 same-response-shape-by-name-group-part-requires t c κs = tt
 
-same-response-shape-by-name-meet-part-requires :
-    (t : ℕ) → same-response-shape-by-name-lts.Need-meet-part-requires (
+same-response-shape-by-name-meet-group-requires :
+    (t : ℕ) → same-response-shape-by-name-lts.Need-meet-group-requires (
       find-group-reads.Asked,
       find-group-reads.Learnt,
       group-part-reads.Asked,
       group-part-reads.Learnt,
-      meet-part-reads.Asked,
-      meet-part-reads.Learnt,
+      meet-group-reads.Asked,
+      meet-group-reads.Learnt,
       same-response-shape-by-name-below t,
       same-response-shape-by-name.Post,
     )
@@ -126,7 +126,7 @@ same-response-shape-by-name-meet-part-requires :
     same-response-shape-by-name.Post
     same-response-shape-by-name-Inv-loop
     same-response-shape-by-name-μ-loop
-same-response-shape-by-name-meet-part-requires t c κs = c .before .before .before .before .loop .inv .1
+same-response-shape-by-name-meet-group-requires t c κs = c .before .before .before .before .loop .inv .1
 
 same-response-shape-by-name-sub-same-response-shape-by-name :
     (t : ℕ) → same-response-shape-by-name-lts.Need-sub-same-response-shape-by-name (
@@ -134,8 +134,8 @@ same-response-shape-by-name-sub-same-response-shape-by-name :
       find-group-reads.Learnt,
       group-part-reads.Asked,
       group-part-reads.Learnt,
-      meet-part-reads.Asked,
-      meet-part-reads.Learnt,
+      meet-group-reads.Asked,
+      meet-group-reads.Learnt,
       same-response-shape-by-name-below t,
       same-response-shape-by-name.Post,
     )
@@ -151,8 +151,8 @@ same-response-shape-by-name-same-response-shape-by-name-requires :
       find-group-reads.Learnt,
       group-part-reads.Asked,
       group-part-reads.Learnt,
-      meet-part-reads.Asked,
-      meet-part-reads.Learnt,
+      meet-group-reads.Asked,
+      meet-group-reads.Learnt,
       same-response-shape-by-name-below t,
       same-response-shape-by-name.Post,
     )
@@ -160,7 +160,7 @@ same-response-shape-by-name-same-response-shape-by-name-requires :
     same-response-shape-by-name.Post
     same-response-shape-by-name-Inv-loop
     same-response-shape-by-name-μ-loop
-same-response-shape-by-name-same-response-shape-by-name-requires t c κs = (omega (arith, c .before .before .before .before .before .before .before .before .before .before .before .before .before .if1 .left, c .before .before .before .before .before .before .before .before .before .before .before .before .before .before .before .before .pre .0), c .before .before .before .before .before .meet-part .ensures .ample (c .before .before .before .before .before .meet-part .ensures .going (c .before .if2 .taken)))
+same-response-shape-by-name-same-response-shape-by-name-requires t c κs = (omega (arith, c .before .before .before .before .before .before .before .before .before .before .before .before .before .if1 .left, c .before .before .before .before .before .before .before .before .before .before .before .before .before .before .before .before .pre .0), c .before .before .before .before .before .meet-group .ensures .ample (c .before .before .before .before .before .meet-group .ensures .going (c .before .if2 .taken)))
 
 same-response-shape-by-name-same-length :
     (t : ℕ) → same-response-shape-by-name-lts.Need-same-length (
@@ -168,8 +168,8 @@ same-response-shape-by-name-same-length :
       find-group-reads.Learnt,
       group-part-reads.Asked,
       group-part-reads.Learnt,
-      meet-part-reads.Asked,
-      meet-part-reads.Learnt,
+      meet-group-reads.Asked,
+      meet-group-reads.Learnt,
       same-response-shape-by-name-below t,
       same-response-shape-by-name.Post,
     )
@@ -180,8 +180,8 @@ same-response-shape-by-name-same-length :
 same-response-shape-by-name-same-length t c =
     let a = c .before .before .before .before .before .before .before .before .before .before .before .before .before .before .before .before .before .args in
     let at-loop = c .before .before .before .before .before .before .before .before .before .before .before .loop in
-    let met = c .before .before .before .before .before .before .meet-part .ensures in
-    let long = c .before .before .before .before .before .before .meet-part .kept .1 .0 in
+    let met = c .before .before .before .before .before .before .meet-group .ensures in
+    let long = c .before .before .before .before .before .before .meet-group .kept .1 .0 in
     let step : Stepped (a .image .now) (a .arena) (a .work) (at-loop .s) (c .before .before .if2 .s) (at-loop .next) (c .before .before .before .before .before .before .before .before .group-part .result) true (a .level - 1) (c .before .before .if2 .next) =
     ⊎-elim (λ h. stepped-as (h .5) (h .6) (stepped-deeper long met (h .0 .taken) (h .2 .ensures))) (λ h. stepped-as (h .1) (h .2) (stepped-flat long met (a .level - 1) (h .0 .left))) (c .before .before .if2 .came) in
     step .long ∙ at-loop .inv .0 .long
@@ -191,8 +191,8 @@ same-response-shape-by-name-returns-2 : (t : ℕ) → same-response-shape-by-nam
   find-group-reads.Learnt,
   group-part-reads.Asked,
   group-part-reads.Learnt,
-  meet-part-reads.Asked,
-  meet-part-reads.Learnt,
+  meet-group-reads.Asked,
+  meet-group-reads.Learnt,
   same-response-shape-by-name-below t,
   same-response-shape-by-name.Post,
 )
@@ -203,8 +203,8 @@ same-response-shape-by-name-returns-2 : (t : ℕ) → same-response-shape-by-nam
 same-response-shape-by-name-returns-2 t c =
     let a = c .before .before .before .before .before .before .before .before .before .before .before .before .before .before .before .before .before .args in
     let at-loop = c .before .before .before .before .before .before .before .before .before .before .before .loop in
-    let met = c .before .before .before .before .before .before .meet-part .ensures in
-    let long = c .before .before .before .before .before .before .meet-part .kept .1 .0 in
+    let met = c .before .before .before .before .before .before .meet-group .ensures in
+    let long = c .before .before .before .before .before .before .meet-group .kept .1 .0 in
     let step : Stepped (a .image .now) (a .arena) (a .work) (at-loop .s) (c .before .before .if2 .s) (at-loop .next) (c .before .before .before .before .before .before .before .before .group-part .result) true (a .level - 1) (c .before .before .if2 .next) =
     ⊎-elim (λ h. stepped-as (h .5) (h .6) (stepped-deeper long met (h .0 .taken) (h .2 .ensures))) (λ h. stepped-as (h .1) (h .2) (stepped-flat long met (a .level - 1) (h .0 .left))) (c .before .before .if2 .came) in
     loop-stop (shape-turn (at-loop .inv .0) (at-loop .inv .1) (omega (arith, c .before .before .before .before .before .before .before .before .before .before .loop-test .taken)) (c .before .before .before .before .before .before .before .before .group-part .ensures) step) (a .level) (omega (arith, c .before .before .before .before .before .before .before .before .before .before .before .before .before .before .if1 .left)) (c .if3 .taken)
@@ -215,8 +215,8 @@ same-response-shape-by-name-add-find-group :
       find-group-reads.Learnt,
       group-part-reads.Asked,
       group-part-reads.Learnt,
-      meet-part-reads.Asked,
-      meet-part-reads.Learnt,
+      meet-group-reads.Asked,
+      meet-group-reads.Learnt,
       same-response-shape-by-name-below t,
       same-response-shape-by-name.Post,
     )
@@ -232,8 +232,8 @@ same-response-shape-by-name-find-group-requires-2 :
       find-group-reads.Learnt,
       group-part-reads.Asked,
       group-part-reads.Learnt,
-      meet-part-reads.Asked,
-      meet-part-reads.Learnt,
+      meet-group-reads.Asked,
+      meet-group-reads.Learnt,
       same-response-shape-by-name-below t,
       same-response-shape-by-name.Post,
     )
@@ -248,8 +248,8 @@ same-response-shape-by-name-loop-less : (t : ℕ) → same-response-shape-by-nam
   find-group-reads.Learnt,
   group-part-reads.Asked,
   group-part-reads.Learnt,
-  meet-part-reads.Asked,
-  meet-part-reads.Learnt,
+  meet-group-reads.Asked,
+  meet-group-reads.Learnt,
   same-response-shape-by-name-below t,
   same-response-shape-by-name.Post,
 )
@@ -264,8 +264,8 @@ same-response-shape-by-name-loop-again : (t : ℕ) → same-response-shape-by-na
   find-group-reads.Learnt,
   group-part-reads.Asked,
   group-part-reads.Learnt,
-  meet-part-reads.Asked,
-  meet-part-reads.Learnt,
+  meet-group-reads.Asked,
+  meet-group-reads.Learnt,
   same-response-shape-by-name-below t,
   same-response-shape-by-name.Post,
 )
@@ -276,8 +276,8 @@ same-response-shape-by-name-loop-again : (t : ℕ) → same-response-shape-by-na
 same-response-shape-by-name-loop-again t c =
     let a = c .before .before .before .before .before .before .before .before .before .before .before .before .before .before .before .before .before .before .before .args in
     let at-loop = c .before .before .before .before .before .before .before .before .before .before .before .before .before .loop in
-    let met = c .before .before .before .before .before .before .before .before .meet-part .ensures in
-    let long = c .before .before .before .before .before .before .before .before .meet-part .kept .1 .0 in
+    let met = c .before .before .before .before .before .before .before .before .meet-group .ensures in
+    let long = c .before .before .before .before .before .before .before .before .meet-group .kept .1 .0 in
     let step : Stepped (a .image .now) (a .arena) (a .work) (at-loop .s) (c .before .before .before .before .if2 .s) (at-loop .next) (c .before .before .before .before .before .before .before .before .before .before .group-part .result) true (a .level - 1) (c .before .before .before .before .if2 .next) =
     ⊎-elim (λ h. stepped-as (h .5) (h .6) (stepped-deeper long met (h .0 .taken) (h .2 .ensures))) (λ h. stepped-as (h .1) (h .2) (stepped-flat long met (a .level - 1) (h .0 .left))) (c .before .before .before .before .if2 .came) in
     (shape-found (shape-turn (at-loop .inv .0) (at-loop .inv .1) (omega (arith, c .before .before .before .before .before .before .before .before .before .before .before .before .loop-test .taken)) (c .before .before .before .before .before .before .before .before .before .before .group-part .ensures) step) (c .before .before .if3 .left) (c .find-group2 .ensures), step .ample (c .before .before .if3 .left))
@@ -288,8 +288,8 @@ same-response-shape-by-name-same-length-2 :
       find-group-reads.Learnt,
       group-part-reads.Asked,
       group-part-reads.Learnt,
-      meet-part-reads.Asked,
-      meet-part-reads.Learnt,
+      meet-group-reads.Asked,
+      meet-group-reads.Learnt,
       same-response-shape-by-name-below t,
       same-response-shape-by-name.Post,
     )
@@ -304,8 +304,8 @@ same-response-shape-by-name-returns-3 : (t : ℕ) → same-response-shape-by-nam
   find-group-reads.Learnt,
   group-part-reads.Asked,
   group-part-reads.Learnt,
-  meet-part-reads.Asked,
-  meet-part-reads.Learnt,
+  meet-group-reads.Asked,
+  meet-group-reads.Learnt,
   same-response-shape-by-name-below t,
   same-response-shape-by-name.Post,
 )
@@ -322,8 +322,8 @@ pub +same-response-shape-by-name-spec : {M : Type 1} → statement M
       find-group-reads.Learnt,
       group-part-reads.Asked,
       group-part-reads.Learnt,
-      meet-part-reads.Asked,
-      meet-part-reads.Learnt,
+      meet-group-reads.Asked,
+      meet-group-reads.Learnt,
       same-response-shape-by-name-below t,
       same-response-shape-by-name.Post,
     )
@@ -335,7 +335,7 @@ pub +same-response-shape-by-name-spec : {M : Type 1} → statement M
     (same-response-shape-by-name-find-group-requires t)
     (same-response-shape-by-name-loop-holds t)
     (same-response-shape-by-name-group-part-requires t)
-    (same-response-shape-by-name-meet-part-requires t)
+    (same-response-shape-by-name-meet-group-requires t)
     (same-response-shape-by-name-sub-same-response-shape-by-name t)
     (same-response-shape-by-name-same-response-shape-by-name-requires t)
     (same-response-shape-by-name-same-length t)
