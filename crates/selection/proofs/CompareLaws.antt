@@ -167,14 +167,16 @@ module _ {image s : List ℕ} {arena : Arena} {z z₁ : states.Walk} {part : Par
         rw (in-order l rows G p ls used) (tells-stop s arena (z .reply .operation) z₁ _ _ (front-tells l rows G t p ls used h) stop);
   }
 
-  pub part-compared : z₁ ≡ z → {z₂ : states.Walk} → ComparesSegment image s arena z (part .list) (part .back) isShape a (part .next) z₂ → ComparesPart image s arena z part isShape z₂
-  part-compared is {z₂} back =
+  pub part-compared : z₁ .reply .kind ≡ 0 → {z₂ : states.Walk} → ComparesSegment image s arena z₁ (part .list) (part .back) isShape a (part .next) z₂ → ComparesPart image s arena z part isShape z₂
+  part-compared go {z₂} back =
+      let is : z₁ ≡ z = front .same go in
+      let back′ : ComparesSegment image s arena z (part .list) (part .back) isShape a (part .next) z₂ = rw is at back in
       record {
-        same = back .same;
-        known = back .known;
-        operation = back .operation;
+        same = back′ .same;
+        known = back′ .known;
+        operation = back′ .operation;
         tells = λ l rows G t p ls used h.
             rw (in-order l rows G p ls used)
-            (tells-go s s arena (z .reply .operation) z z₂ _ _ (rw is at (front-tells l rows G t p ls used h)) (ap (λ r. r .kind) (h .reply))
-            (λ ls′ used′ h′. back .tells l G (back-follows l rows G t p) (p .behind) (p .starts) ls′ used′ h′));
+            (tells-go s s arena (z .reply .operation) z z₂ _ _ (rw is at (front-tells l rows G t p ls used h)) (rw is at go)
+            (λ ls′ used′ h′. back′ .tells l G (back-follows l rows G t p) (p .behind) (p .starts) ls′ used′ h′));
       }

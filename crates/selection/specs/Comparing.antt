@@ -18,7 +18,6 @@ use Rattle.selection.specs.declared.arena.List as places
 use Rattle.selection.specs.declared.expand.Expansion.{Expansion}
 use Rattle.selection.specs.declared.groups.Segment.{Segment}
 use Rattle.selection.specs.declared.groups.Part.{Part}
-use Rattle.selection.specs.declared.walk.Difference.{Difference}
 use Rattle.selection.specs.Standing.{Stands}
 use Rattle.selection.specs.Places.{rowIn, onward}
 use Rattle.selection.specs.Expanding.{queueNext, queueWords}
@@ -47,14 +46,6 @@ pub record ComparesSegment (image s : List ℕ) (arena : Arena) (z : states.Walk
   pub tells : (l : List ℕ) → Grounded (document image) image s (arena .store) x l → Follows image s arena g x → x .start ≤ from
       → (from < x .end → member (document image) g (rowIn s (arena .store) from) ≡ true) → (ls : List (List ℕ)) (used : ℕ) → Holds s arena (z .reply .operation) z ls used
       → Tells s arena (z .reply .operation) r (against (passOf image isShape .clash) a (filter (member (document image) g) (onward x l from)) ls used)
-
--- the state once a field and that of a clash were compared
-abbrev pub clashed : ℕ → Difference → states.Walk → states.Walk
-clashed a c z = cond (eqb (c .kind) 0) z (conflicted (c .kind) a (c .row) z)
-
--- what is found says how the comparing ends, from any state
-pub record FindsDifference (image s : List ℕ) (arena : Arena) (x : places.List) (g : Segment) (isShape : Bool) (a from : ℕ) (c : Difference) : Type 0 where
-  pub compares : (z : states.Walk) → ComparesSegment image s arena z x g isShape a from (clashed a c z)
 
 -- the first field of a part against each other
 pub record ComparesPart (image s : List ℕ) (arena : Arena) (z : states.Walk) (part : Part) (isShape : Bool) (r : states.Walk) : Type 0 where

@@ -41,7 +41,7 @@ ghost use mathlib.Core.Bool.{true, false};
 ghost use Prim.Native.Nat.{_+_, _<_};
 ghost use Rattle.selection.specs.Refining.{charged, MeetsList, Ample, Begun, MeetsSets, MeetsPart, WalksList, passOf};
 ghost use Rattle.selection.specs.Validating.{MeetsOperation, Runs, Validates};
-ghost use Rattle.selection.specs.Comparing.{kindOfClash, conflicted, FindsDifference, ComparesPart, Bare, fieldNext, fieldWords, QueuesSegment, QueuesPart};
+ghost use Rattle.selection.specs.Comparing.{kindOfClash, conflicted, ComparesSegment, ComparesPart, Bare, fieldNext, fieldWords, QueuesSegment, QueuesPart};
 
 // One more than the links of the document: a set lies fewer links below the operation's.
 const LEVELS: u32 = 502;
@@ -51,12 +51,6 @@ pub struct Met {
     pub walk: Walk,
     pub list: List,
     pub deeper: bool,
-}
-
-// What a field conflicts in with another, 0 where it does not, and the other's row.
-pub struct Difference {
-    pub kind: u32,
-    pub row: u32,
 }
 
 // One unit and as many as there are rows are charged, or the reply is 17 where that would pass the budget.
@@ -196,25 +190,26 @@ fn compare_segment(
     image: &[u32],
     s: &[u32],
     arena: Arena,
+    walk: Walk,
     list: List,
     segment: Segment,
     shape: bool,
     a: u32,
     from: u32,
-) -> Difference
-    ensures { λ r. ⌜ FindsDifference (now (image .entry)) (now (s .entry)) arena list segment shape a from r ⌝ }
+) -> Walk
+    ensures { λ r. ⌜ ComparesSegment (now (image .entry)) (now (s .entry)) arena walk list segment shape a from r ⌝ }
 {
     let end = list.end;
     let mut place = from;
     while place < end {
-        let row = row_at(s, arena, place);
-        let kind = clash(image, shape, a, row);
+        let b = row_at(s, arena, place);
+        let kind = clash(image, shape, a, b);
         if kind != 0 {
-            return Difference { kind, row };
+            return conflict(walk, kind, a, b);
         }
         place = follow(s, arena, segment.kind, place, end);
     }
-    Difference { kind: 0, row: 0 }
+    walk
 }
 
 // The first field of a part against each other, in order.
@@ -224,16 +219,31 @@ fn compare_part(image: &[u32], s: &[u32], arena: Arena, walk: Walk, part: Part, 
     let a = row_at(s, arena, part.first);
     let kind = part.front.kind;
     let second = follow(s, arena, kind, part.first, part.list.end);
-    let list = part.list;
-    let front = compare_segment(image, s, arena, list, part.front, shape, a, second);
-    if front.kind != 0 {
-        return conflict(walk, front.kind, a, front.row);
+    let front = compare_segment(
+        image,
+        s,
+        arena,
+        walk,
+        part.list,
+        part.front,
+        shape,
+        a,
+        second,
+    );
+    if front.reply.kind != 0 {
+        return front;
     }
-    let back = compare_segment(image, s, arena, list, part.back, shape, a, part.next);
-    if back.kind != 0 {
-        return conflict(walk, back.kind, a, back.row);
-    }
-    walk
+    compare_segment(
+        image,
+        s,
+        arena,
+        front,
+        part.list,
+        part.back,
+        shape,
+        a,
+        part.next,
+    )
 }
 
 // The set of a field is queued, if it has one that is not empty.
