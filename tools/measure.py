@@ -5,6 +5,7 @@
 
 The budget is what the check uses, the scratch what that budget needs. The count is that of a run of two such cases less that of a run
 of one; taken off in the same way is a case that is refused for its budget (kind 2), which costs what `replay` does around a check.
+The C library is told to fill words by ordinary stores: valgrind counts a repeated store (`rep stosb`) once for each byte.
 """
 import os
 import pathlib
@@ -21,6 +22,7 @@ KIT = pathlib.Path(os.environ.get("RATTLE_HOME") or pathlib.Path(shutil.which("r
 LIB = KIT / "on/x86_64/toolchain/lib"
 REPLAY = [str(LIB / "ld-linux-x86-64.so.2"), "--library-path", str(LIB), str(ROOT / "target/bin/replay")]
 COUNTER = ["valgrind", "--tool=cachegrind", "--cache-sim=no", "--cachegrind-out-file=/dev/null"]
+PLAIN_STORES = {**os.environ, "GLIBC_TUNABLES": "glibc.cpu.x86_rep_stosb_threshold=100000000"}
 
 
 def reply(given):
@@ -31,7 +33,7 @@ def reply(given):
 
 
 def instructions(given):
-    done = subprocess.run(COUNTER + REPLAY, input=given, capture_output=True, check=True)
+    done = subprocess.run(COUNTER + REPLAY, input=given, capture_output=True, check=True, env=PLAIN_STORES)
     return int(re.search(rb"I +refs: +([\d,]+)", done.stderr).group(1).replace(b",", b""))
 
 

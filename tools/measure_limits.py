@@ -13,7 +13,7 @@ import sys
 import tempfile
 
 from image import as_bytes, scratch_needed, words
-from measure import COUNTER
+from measure import COUNTER, PLAIN_STORES
 from worst_images import arguments, lists, names, rows, same
 
 IMAGES = [("names", names, 8192), ("same", same, 8192), ("arguments", arguments, 8192), ("lists", lists, 16384)]
@@ -30,7 +30,7 @@ def reply(host, given):
 
 
 def instructions(host, times, given):
-    done = subprocess.run(COUNTER + [host, str(times)], input=given, capture_output=True, check=True)
+    done = subprocess.run(COUNTER + [host, str(times)], input=given, capture_output=True, check=True, env=PLAIN_STORES)
     return int(re.search(rb"I +refs: +([\d,]+)", done.stderr).group(1).replace(b",", b""))
 
 

@@ -143,6 +143,13 @@ def prefixes(n):
     return document([top, common] + [[spread(0), inline(1 + n + i)] for i in range(1, n + 1)] + [[leaf()]] * n, fragments=[(0, 0)])
 
 
+def ends(n):
+    """n fields with sets whose lists are a common first field, one of their own, and a common last field, so that all have one key."""
+    top = [composite(2 + i) for i in range(1, n + 1)]
+    own = [[spread(0), inline(2 + n + i), spread(1)] for i in range(1, n + 1)]
+    return document([top, [leaf(10)], [leaf(11)]] + own + [[leaf()]] * n, fragments=[(0, 0), (0, 0)])
+
+
 def operations(n):
     """n operations that spread one fragment of 100 fields with different response names."""
     return document([[spread(0)]] * n + [[leaf(10 + i) for i in range(100)]], operations=[(0, 0, 0, 0)] * n, fragments=[(0, 0)])
@@ -227,6 +234,7 @@ IMAGES = [
     ("objects", objects, (1024, 2048, 4096)),
     ("parents", parents, (700, 1400, 2800)),
     ("prefixes", prefixes, (25, 50, 100)),
+    ("ends", ends, (320, 640, 1280)),
     ("names", names, (1792, 3584, 7168)),
     ("same", same, (1792, 3584, 7168)),
     ("variables", variables, (256, 512, 1024)),

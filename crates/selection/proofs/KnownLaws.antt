@@ -7,10 +7,10 @@ use Prim.Native.Nat.{ℕ, zero, suc, _+_, _-_, _*_, _≤_, _<_, min}
 use native.Mathlib.Nat.{add-zero}
 use native.Mathlib.Decide.{ℕ-discrete}
 use native.Mathlib.Omega.{arith}
-use lib.Dec.{T, eqb, leb, ltb}
+use lib.Dec.{T, eqb, leb}
 use lib.ListN.{length, getD, set, length-set}
 use lib.Seq.{getD-set-same, getD-set-other}
-use borrow.Author.Tests.{eq-eqb, ne-eqb, lt-ltb, le-ltb, leb-true}
+use borrow.Author.Tests.{eq-eqb, ne-eqb, leb-true}
 use Rattle.lists.specs.Every.{every}
 use Rattle.lists.specs.Part.{Stores}
 use Rattle.lists.proofs.EveryLaws.{every-cong}
@@ -20,12 +20,12 @@ use Rattle.merge_theory.proofs.ListLaws.{isKnown→in, in-append, not-in-nil}
 use Rattle.merge_theory.proofs.Loops.{isKnown-append}
 use Rattle.selection.specs.declared.arena.Arena.{Arena}
 use Rattle.selection.specs.declared.arena.List as places
-use Rattle.selection.specs.KnownLists.{bucket, keyOf, sumAt, headAt, KeptAt, Unlike, Trail, ends, leads, Known, AtHand, sameRows, isListAt, keptWords}
+use Rattle.selection.specs.KnownLists.{bucket, keyWords, keyOf, headAt, KeptAt, Unlike, Trail, ends, leads, Known, AtHand, sameRows, isListAt, keptWords}
 use Rattle.selection.proofs.ExpandedLaws.{stores-same}
 
 -- ---- keys
 
-pub bucket-most : (n sum : ℕ) → bucket n sum ≤ n
+bucket-most : (n sum : ℕ) → bucket n sum ≤ n
 unfolding bucket
 bucket-most n sum = go (leb sum n) refl
   where
@@ -33,34 +33,24 @@ bucket-most n sum = go (leb sum n) refl
     go true e = leb-true sum n e
     go false e = omega arith
 
-pub key-most : (n : ℕ) (l : List ℕ) → keyOf n l ≤ n
-unfolding keyOf
-key-most n l = bucket-most n _
+pub key-most : (n : ℕ) (s : List ℕ) (at rows : ℕ) → keyWords n s at rows ≤ n
+unfolding keyWords
+key-most n s at zero = omega arith
+key-most n s at (suc rows) = bucket-most n (keyWords n s at rows + getD s (at + rows) 0)
+
+-- the same words have one key
+key-same : (n : ℕ) (s s′ : List ℕ) (at at′ rows : ℕ) → ((k : ℕ) → k < rows → getD s (at + k) 0 ≡ getD s′ (at′ + k) 0) → keyWords n s at rows ≡ keyWords n s′ at′ rows
+unfolding keyWords
+key-same n s s′ at at′ zero same = refl
+key-same n s s′ at at′ (suc rows) same = rw (key-same n s s′ at at′ rows (λ k h. same k (omega arith)), same rows (omega arith))
 
 -- the list at hand has the key of its rows
-sum-is : (arena : Arena) {s : List ℕ} {x : places.List} {l : List ℕ} → AtHand s (arena .store) x l → sumAt arena s x ≡ getD l 0 0 + getD l (length l - 1) 0
-unfolding sumAt
-sum-is arena {s} {x} {l} list = go (length l) refl
-  where
-    long : length l ≡ x .end - x .start
-    long = stores-length (list .rows)
-
-    go : (n : ℕ) → length l ≡ n
-        → cond (ltb (x .start) (x .end)) (getD s (arena .store + x .start) 0 + getD s (arena .store + (x .end - 1)) 0) 0 ≡ getD l 0 0 + getD l (length l - 1) 0
-    go zero e = rw (le-ltb (x .start) (x .end) (omega (arith, long))) (none l e)
-      where
-        none : (k : List ℕ) → length k ≡ 0 → 0 ≡ getD k 0 0 + getD k (length k - 1) 0
-        none [] h = refl
-        none (y ∷ ys) h = absurd (omega arith)
-    go (suc n) e =
-        let first : getD s (arena .store + x .start + 0) 0 ≡ getD l 0 0 = stores-getD (list .rows) 0 (omega (arith, long)) in
-        let last : getD s (arena .store + x .start + (length l - 1)) 0 ≡ getD l (length l - 1) 0 = stores-getD (list .rows) (length l - 1) (omega (arith, long)) in
-        let place : arena .store + x .start + (length l - 1) ≡ arena .store + (x .end - 1) = omega (arith, long) in
-        rw (lt-ltb (x .start) (x .end) (omega (arith, long)), ← first, ← last, place, add-zero (arena .store + x .start))
-
 pub head-is : (arena : Arena) {s : List ℕ} {x : places.List} {l : List ℕ} → AtHand s (arena .store) x l → headAt arena s x ≡ arena .heads + keyOf (arena .names) l
-unfolding headAt keyOf
-head-is arena list = rw (sum-is arena list)
+unfolding headAt
+head-is arena {s} {x} {l} list =
+    let long : x .end - x .start ≡ length l = sym (stores-length (list .rows)) in
+    ap (λ k. arena .heads + k) (key-same (arena .names) s l (arena .store + x .start) 0 (x .end - x .start) (λ k h. stores-getD (list .rows) k h ∙ ap (λ j. getD l j 0) (let e : k ≡ 0 + k = omega arith in e))
+    ∙ ap (keyWords (arena .names) l 0) long)
 
 -- ---- the words of two places, as lists
 
@@ -248,7 +238,7 @@ known-more {arena} {s} {s′} {head} {n} {x} {ls} l low spread at start ordered 
     room = omega (arith, list .rows .inside)
 
     below : head < arena .links
-    below = omega (arith, key-most (arena .names) l)
+    below = omega (arith, key-most (arena .names) l 0 (length l))
 
     stays : (k : ℕ) → arena .links ≤ k → k < arena .links + 4 * n → getD s′ k 0 ≡ getD s k 0
     stays k ge less = keep .words k (λ e. omega arith) (λ e. omega (arith, below)) (λ e. omega arith)

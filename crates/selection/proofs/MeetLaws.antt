@@ -3,7 +3,7 @@ use mathlib.Core.Path.{_≡_, refl, sym, ap, _∙_}
 use mathlib.Core.Logic.{_⊎_, inl, inr}
 use mathlib.Core.Bool.{Bool, true, false, false≢true}
 use mathlib.Core.List.{List, [], _∷_, _++_}
-use Prim.Native.Nat.{ℕ, zero, suc, _+_, _*_, _≤_, _<_}
+use Prim.Native.Nat.{ℕ, zero, suc, _+_, _-_, _*_, _≤_, _<_}
 use native.Mathlib.Omega.{arith}
 use lib.Dec.{leb}
 use lib.ListN.{length, getD}
@@ -21,7 +21,7 @@ use Rattle.selection.specs.declared.arena.List as places
 use Rattle.selection.specs.declared.expand.Expansion.{Expansion}
 use Rattle.selection.specs.declared.walk.Met.{Met}
 use Rattle.selection.specs.Expanding.{Expanded, Listed}
-use Rattle.selection.specs.KnownLists.{AtHand, sumAt, headAt}
+use Rattle.selection.specs.KnownLists.{AtHand, headAt}
 use Rattle.selection.specs.Regions.{Places}
 use Rattle.selection.specs.Standing.{LinkFrame, LinkableBoth, Stood}
 use Rattle.selection.specs.Places.{rowIn}
@@ -29,7 +29,7 @@ use Rattle.selection.specs.Refining.{document, passOf, Holds, Tells, cha
 use Rattle.selection.proofs.ParentsLaws.{few-rows}
 use Rattle.selection.proofs.StandLaws.{classed-kept, heads-low, in-front, row-in}
 use Rattle.selection.proofs.ExpandedLaws.{listed-expand, stores-same}
-use Rattle.selection.proofs.KnownLaws.{bucket-most, known-told, known-kept, keeps}
+use Rattle.selection.proofs.KnownLaws.{key-most, known-told, known-kept, keeps}
 use Rattle.selection.proofs.RefineLaws.{MetCase, again, refused, stored, met-case, met-done, met-entered}
 
 -- ---- whatever the image is
@@ -96,7 +96,7 @@ record After (s s′ : List ℕ) (arena : Arena) (work : ℕ) (z : states.Walk) 
 not-head : (arena : Arena) (s : List ℕ) (x : places.List) (k : ℕ) → (k < arena .heads) ⊎ (arena .heads + arena .names < k) → k ≡ headAt arena s x → ⊥
 unfolding headAt
 not-head arena s x k (inl low) e = omega arith
-not-head arena s x k (inr high) e = omega (arith, bucket-most (arena .names) (sumAt arena s x))
+not-head arena s x k (inr high) e = omega (arith, key-most (arena .names) s (arena .store + x .start) (x .end - x .start))
 
 after-met : {s s′ : List ℕ} {arena : Arena} {work : ℕ} {z : states.Walk} {x : places.List} {r : Met} → MeetsList s s′ arena work z x r → After s s′ arena work z x r
 after-met {s} {s′} {arena} {work} {z} {x} {r} m = go (met-case m)

@@ -11,8 +11,8 @@
 use mathlib.Core.Path.{_≡_}
 use mathlib.Core.Bool.{Bool, cond, _&&_}
 use mathlib.Core.List.{List, [], _∷_, _++_}
-use Prim.Native.Nat.{ℕ, suc, _+_, _-_, _*_, _≤_, min}
-use lib.Dec.{eqb, leb, ltb}
+use Prim.Native.Nat.{ℕ, zero, suc, _+_, _-_, _*_, _≤_, min}
+use lib.Dec.{eqb, leb}
 use lib.ListN.{length, getD, set}
 use Rattle.lists.specs.Every.{every}
 use Rattle.lists.specs.Part.{Stores}
@@ -26,16 +26,17 @@ use Rattle.selection.specs.declared.arena.List as places
 unfoldable pub bucket : ℕ → ℕ → ℕ
 bucket n sum = cond (leb sum n) sum (min (sum - n) n)
 
--- of the first row and the last
-unfoldable pub keyOf : ℕ → List ℕ → ℕ
-keyOf n l = bucket n (getD l 0 0 + getD l (length l - 1) 0)
+-- of so many words from a place on, added one by one
+unfoldable pub keyWords : ℕ → List ℕ → (at rows : ℕ) → ℕ
+keyWords n s at zero = 0
+keyWords n s at (suc rows) = bucket n (keyWords n s at rows + getD s (at + rows) 0)
 
--- of the list at hand, where the last known list of its key is told
-unfoldable pub sumAt : Arena → List ℕ → places.List → ℕ
-sumAt arena s x = cond (ltb (x .start) (x .end)) (getD s (arena .store + x .start) 0 + getD s (arena .store + (x .end - 1)) 0) 0
+abbrev pub keyOf : ℕ → List ℕ → ℕ
+keyOf n l = keyWords n l 0 (length l)
 
+-- where the last known list is told that has the key of the list at hand
 unfoldable pub headAt : Arena → List ℕ → places.List → ℕ
-headAt arena s x = arena .heads + bucket (arena .names) (sumAt arena s x)
+headAt arena s x = arena .heads + keyWords (arena .names) s (arena .store + x .start) (x .end - x .start)
 
 -- ---- known lists
 

@@ -25,7 +25,7 @@ pub fn list_length(list: List) -> u32
     }
 }
 
-// A number of at most `rows` for a sum of two rows.
+// A number of at most `rows` for a sum.
 fn bucket(rows: u32, sum: usize) -> usize
     ensures { λ r. ⌜ (r ≡ bucket rows sum) × (r ≤ rows) ⌝ }
 {
@@ -37,17 +37,20 @@ fn bucket(rows: u32, sum: usize) -> usize
     if less <= most { less } else { most }
 }
 
-// Where the last known list is told that has the key of the list at hand: one number for lists of one first and one last row.
+// Where the last known list is told that has the key of the list at hand, which is a sum of its rows.
 pub fn head_at(s: &[u32], arena: Arena, list: List) -> usize
     ensures { λ r. ⌜ r ≡ headAt arena (now (s .entry)) list ⌝ }
 {
-    let heads = arena.heads as usize;
-    if list.start < list.end {
-        let first = get(s, in_region(arena.store, list.start)) as usize;
-        let last = get(s, in_region(arena.store, list.end - 1)) as usize;
-        return heads + bucket(arena.names, first + last);
+    let rows = list_length(list);
+    let start = in_region(arena.store, list.start);
+    let mut key: usize = 0;
+    let mut i: u32 = 0;
+    while i < rows {
+        let row = get(s, start + (i as usize));
+        key = bucket(arena.names, key + (row as usize));
+        i += 1;
     }
-    heads + bucket(arena.names, 0)
+    (arena.heads as usize) + key
 }
 
 // Nothing is known: no key has a list.

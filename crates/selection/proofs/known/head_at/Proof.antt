@@ -1,54 +1,100 @@
--- `known::head_at` meets its contract. Assumes nothing.
+-- `known::head_at` meets its contract. The loop's invariant: the key of the rows passed. Assumes nothing.
 use mathlib.Core.Path.{_≡_, refl, ap, _∙_}
 use mathlib.Core.List.{List}
 use native.Mathlib.Omega.{arith}
-use borrow.Author.Needs.{needs}
-use borrow.Author.Tests.{lt-ltb, le-ltb}
-use Prim.Native.Nat.{ℕ, _+_, _-_, _≤_, _<_}
+use Prim.Native.Nat.{ℕ, suc, _+_, _-_, _≤_, _<_}
 use lib.ListN.{getD}
 use Rattle.selection.specs.declared.arena.Arena.{Arena}
 use Rattle.selection.specs.declared.arena.List as places
-use Rattle.selection.specs.KnownLists.{bucket, sumAt, headAt}
+use Rattle.selection.specs.KnownLists.{bucket, keyWords, headAt}
+use Rattle.selection.proofs.KnownLaws.{key-most}
 use Rattle.selection.proofs.known.head_at.Statement.{statement}
 use Rattle.selection.proofs.known.head_at.Tie as tie
 
-some-rows : (arena : Arena) (s : List ℕ) (x : places.List) (first last r : ℕ) → x .start < x .end → first ≡ getD s (arena .store + x .start) 0 → last ≡ getD s (arena .store + (x .end - 1)) 0
-    → r ≡ bucket (arena .names) (first + last) → arena .heads + r ≡ headAt arena s x
-unfolding headAt sumAt
-some-rows arena s x first last r h f l e = rw (lt-ltb (x .start) (x .end) h, ← f, ← l, e)
+abbrev Inv-loop : tie.InvT-loop
+Inv-loop s arena rows start key₀ i₀ key i = (i ≤ rows) × (key ≡ keyWords (arena .names) s start i) × (key ≤ arena .names)
 
-no-rows : (arena : Arena) (s : List ℕ) (x : places.List) (r : ℕ) → x .end ≤ x .start → r ≡ bucket (arena .names) 0 → arena .heads + r ≡ headAt arena s x
-unfolding headAt sumAt
-no-rows arena s x r h e = rw (le-ltb (x .start) (x .end) h, e)
+abbrev μ-loop : tie.MeasureT-loop
+μ-loop s arena rows start key₀ i₀ key i = rows - i
 
-add-result : tie.Need-add-result
-add-result c = omega (arith, c .bucket .ensures .1)
+key-next : (n : ℕ) (s : List ℕ) (start i : ℕ) {key row next : ℕ} → key ≡ keyWords n s start i → row ≡ getD s (start + i) 0 → next ≡ bucket n (key + row) → next ≡ keyWords n s start (i + 1)
+unfolding keyWords
+key-next n s start i is here e =
+    let more : i + 1 ≡ suc i = omega arith in
+    rw (more, e, is, here)
 
-returns : tie.Need-returns
-returns c = some-rows _ _ _ _ _ _ (omega arith) (c .before .before .before .before .get .ensures ∙ ap (λ k. getD (c .before .before .before .before .before .before .before .before .before .before .args .s .now) k 0) (c .before .before .before .before .before .in-region .ensures)) (c .before .get2 .ensures ∙ ap (λ k. getD (c .before .before .before .before .before .before .before .before .before .before .args .s .now) k 0) (c .before .before .in-region2 .ensures)) (c .bucket .ensures .0)
+key-none : (n : ℕ) (s : List ℕ) (start : ℕ) → 0 ≡ keyWords n s start 0
+unfolding keyWords
+key-none n s start = refl
 
-add-result-2 : tie.Need-add-result-2
-add-result-2 c = omega (arith, c .bucket2 .ensures .1)
+all-rows : (arena : Arena) (s : List ℕ) (x : places.List) {rows start i key : ℕ} → rows ≡ x .end - x .start → start ≡ arena .store + x .start → i ≡ rows → key ≡ keyWords (arena .names) s start i
+    → arena .heads + key ≡ headAt arena s x
+unfolding headAt
+all-rows arena s x long at done is = rw (is, done, at, long)
 
-returns-2 : tie.Need-returns-2
-returns-2 c = no-rows _ _ _ _ (omega arith) (c .bucket2 .ensures .0)
+list-length-requires : tie.Need-list-length-requires Inv-loop μ-loop
+list-length-requires c κs = tt
+
+in-region-requires : tie.Need-in-region-requires Inv-loop μ-loop
+in-region-requires c κs = tt
+
+loop-holds : tie.Need-loop-holds Inv-loop μ-loop
+loop-holds c = (omega arith, key-none _ _ _, omega arith)
+
+cast-get : tie.Need-cast-get Inv-loop μ-loop
+cast-get c = omega arith
+
+add-get : tie.Need-add-get Inv-loop μ-loop
+add-get c = omega arith
+
+get-requires : tie.Need-get-requires Inv-loop μ-loop
+get-requires c κs = tt
+
+cast-bucket : tie.Need-cast-bucket Inv-loop μ-loop
+cast-bucket c = omega arith
+
+add-bucket : tie.Need-add-bucket Inv-loop μ-loop
+add-bucket c = omega (arith, c .before .before .loop .inv .2)
+
+bucket-requires : tie.Need-bucket-requires Inv-loop μ-loop
+bucket-requires c κs = tt
+
+add-i : tie.Need-add-i Inv-loop μ-loop
+add-i c = omega arith
+
+loop-less : tie.Need-loop-less Inv-loop μ-loop
+loop-less c = omega arith
+
+loop-again : tie.Need-loop-again Inv-loop μ-loop
+loop-again c = (omega arith, key-next _ _ _ (c .before .before .before .loop .i) (c .before .before .before .loop .inv .1) (c .before .get .ensures) (c .bucket .ensures .0), c .bucket .ensures .1)
+
+cast-result : tie.Need-cast-result Inv-loop μ-loop
+cast-result c = omega arith
+
+add-result : tie.Need-add-result Inv-loop μ-loop
+add-result c = omega (arith, c .before .before .loop .inv .2)
+
+returns : tie.Need-returns Inv-loop μ-loop
+returns c = all-rows _ _ _ (c .before .before .before .before .list-length .ensures) (c .before .before .before .in-region .ensures) (omega (arith, c .before .before .loop .inv .0)) (c .before .before .loop .inv .1)
 
 pub head-at-spec : {M : Type 1} → statement M
 head-at-spec =
     tie.close
     (tie.spec
-    (λ c. search needs)
-    (λ c κs. search needs)
-    (λ c κs. search needs)
-    (λ c. search needs)
-    (λ c. search needs)
-    (λ c κs. search needs)
-    (λ c κs. search needs)
-    (λ c. search needs)
-    (λ c. search needs)
-    (λ c κs. search needs)
+    Inv-loop
+    μ-loop
+    list-length-requires
+    in-region-requires
+    loop-holds
+    cast-get
+    add-get
+    get-requires
+    cast-bucket
+    add-bucket
+    bucket-requires
+    add-i
+    loop-less
+    loop-again
+    cast-result
     add-result
-    returns
-    (λ c κs. search needs)
-    add-result-2
-    returns-2)
+    returns)

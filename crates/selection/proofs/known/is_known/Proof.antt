@@ -6,7 +6,7 @@ use mathlib.Core.List.{List}
 use native.Mathlib.Omega.{arith}
 use borrow.Author.Needs.{needs}
 use Prim.Native.Nat.{ℕ, _+_, _-_, _*_, _≤_, _<_, suc}
-use lib.ListN.{getD}
+use lib.ListN.{length, getD}
 use Rattle.lists.specs.Part.{Stores}
 use Rattle.merge_theory.specs.Lists.{isKnown}
 use Rattle.selection.specs.declared.arena.Arena.{Arena}
@@ -61,7 +61,7 @@ get-requires : tie.Need-get-requires Inv-loop μ-loop
 get-requires c κs = tt
 
 loop-holds : tie.Need-loop-holds Inv-loop μ-loop
-loop-holds c = (omega arith, λ known ls l stored list key. (known, ls, rw (c .get .ensures, key) (stored .trails (keyOf _ l) (key-most _ l)), refl))
+loop-holds c = (omega arith, λ known ls l stored list key. (known, ls, rw (c .get .ensures, key) (stored .trails (keyOf _ l) (key-most _ l 0 (length l))), refl))
 
 sub-place : tie.Need-sub-place Inv-loop μ-loop
 sub-place c = omega arith
