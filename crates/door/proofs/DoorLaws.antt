@@ -1,17 +1,17 @@
 -- What the door writes: a law for each `return`. Assumes nothing.
-use Prim.Native.Nat.{ℕ, zero, suc, _+_, _<_, _≤_, _%_, _/_, min}
+use Prim.Native.Nat.{ℕ, zero, suc, _+_, _<_, _≤_, _%_, _/_}
 use mathlib.Core.Path.{_≡_, refl, sym, ap, _∙_}
 use mathlib.Core.List.{List, [], _∷_, _++_, append-nil, append-assoc}
 use native.Mathlib.Omega.{arith}
 use borrow.Author.Tests.{le-leb, lt-leb, eq-eqb, ne-eqb}
-use lib.ListN.{length, take, drop, set, replicate, length-append, drop-of-length-le}
+use lib.ListN.{length, take, drop, set, length-append, drop-of-length-le}
 use lib.Seq.{drop-drop}
 use Rattle.lists.specs.Part.{part, write}
 use Rattle.lists.proofs.Parts.{part-write}
 use Rattle.tables.specs.Layout.{NONE}
 use Rattle.selection.specs.declared.arena.Reply.{Reply}
 use Rattle.query.specs.Reply.{answer, reply, scratchAfter}
-use Rattle.door.specs.Spelling.{wordAt, wordsOf, bytesOf}
+use Rattle.door.specs.Spelling.{wordsOf, bytesOf}
 use Rattle.door.specs.Door.{noWords, replyToWords, replyToBytes, replyWords, replyBytes, returned, bytesAfter, wordsAfter, lentAfter}
 
 -- ---- bytes that are refused, and words

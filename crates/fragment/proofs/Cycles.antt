@@ -17,7 +17,8 @@ use Rattle.variable.proofs.ReachMeaning.{marked-spread, spread-marked}
 use Rattle.fragment.specs.Chains.{Link}
 use Rattle.fragment.specs.Rise.{RisesTo}
 use Rattle.fragment.specs.Rules.{isSpreadFrom, ownSet, reachesItself}
-use Rattle.fragment.proofs.Links.{by-fragment, known-some, fragment-set-in}
+use Rattle.tables.proofs.ColumnLaws.{below-spread}
+use Rattle.fragment.proofs.Links.{known-some, fragment-set-in}
 
 module _ {image : List ℕ} (good : Good image) where
   -- what leads to a set is a link
@@ -49,7 +50,7 @@ module _ {image : List ℕ} (good : Good image) where
       never-back : SpreadFrom image (ownSet image f) f → ⊥
       never-back r =
           let sp = r .spreads in
-          let l : Link image (r .via) (sp .row) (fragmentSet image f) = record { stands = sp .stands; leads = by-fragment image (sp .row) (sp .kind) ∙ ap (fragmentSet image) (sp .target); some = known-some good (fragment-set-in good f known) } in
+          let l : Link image (r .via) (sp .row) (fragmentSet image f) = record { stands = sp .stands; leads = below-spread image (sp .row) (sp .kind) ∙ ap (fragmentSet image) (sp .target); some = known-some good (fragment-set-in good f known) } in
           let start : r .reached .start ≡ fragmentSet image f = omega (arith, r .reached .starts .from, r .reached .starts .below) in
           go (rises _ _ _ l) (reach-below (subst (λ (x : ℕ). Reaches image x (r .via)) start (r .reached .reaches)))
         where

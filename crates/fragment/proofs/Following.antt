@@ -15,7 +15,7 @@ use Rattle.variable.proofs.ReachMeaning.{stands-row, spread-leads}
 use Rattle.fragment.specs.Chains.{below}
 use Rattle.fragment.specs.Rules.{ownSet}
 use Rattle.fragment.specs.Meaning.{Inside, at-top, deeper, Follows, one, more}
-use Rattle.fragment.proofs.Links.{by-fragment, by-own}
+use Rattle.tables.proofs.ColumnLaws.{below-spread, below-own}
 
 pub reaches-trans : {image : List ℕ} {s t u : ℕ} → Reaches image s t → Reaches image t u → Reaches image s u
 reaches-trans p itself = p
@@ -23,7 +23,7 @@ reaches-trans p (onward q l) = onward (reaches-trans p q) l
 
 pub inside-reaches : {image : List ℕ} {s t : ℕ} → Inside image s t → Reaches image s t
 inside-reaches at-top = itself
-inside-reaches {image} (deeper {r = r} i st ne e known) = onward (inside-reaches i) (record { row = r; stands = st; below = by-own image r ne ∙ e; known = known })
+inside-reaches {image} (deeper {r = r} i st ne e known) = onward (inside-reaches i) (record { row = r; stands = st; below = below-own image r ne ∙ e; known = known })
 
 -- where a set that a fragment's set reaches lies: inside the fragment, or inside one that it follows
 pub data Lies (image : List ℕ) (f t : ℕ) : Type 0 where
@@ -49,10 +49,10 @@ module _ {image : List ℕ} (good : Good image) where
       elim (ℕ-discrete (selectionKind image (l .row)) spread) [
         | yes e ↦
             let g = selectionTarget image (l .row) in
-            let here : fragmentSet image g ≡ u = sym (by-fragment image (l .row) e) ∙ l .below in
+            let here : fragmentSet image g ≡ u = sym (below-spread image (l .row) e) ∙ l .below in
             let sp : SpreadsIn image t g = record { row = l .row; stands = l .stands; kind = e; target = refl } in
             subst (Lies image f) here (in-other (spreads-on (lies q) sp) at-top)
-        | no ne ↦ inside-on (lies q) (l .stands) ne (sym (by-own image (l .row) ne) ∙ l .below) (l .known)
+        | no ne ↦ inside-on (lies q) (l .stands) ne (sym (below-own image (l .row) ne) ∙ l .below) (l .known)
       ]
 
   pub follows-from : {f g : ℕ} → SpreadFrom image (ownSet image f) g → Follows image f g

@@ -1,17 +1,17 @@
 -- Where the selections of a good image lead: to a fragment's set, to a later set of their own, or nowhere.
 -- Assumes nothing.
-use Prim.Native.Nat.{ℕ, _+_, _<_, _≤_}
+use Prim.Native.Nat.{ℕ, _<_}
 use mathlib.Core.Path.{_≡_, _∙_}
 use mathlib.Core.Bool.{true, false}
 use mathlib.Core.List.{List}
 use native.Mathlib.Decide.{ℕ-discrete}
 use native.Mathlib.Omega.{arith}
-use borrow.Author.Tests.{eq-eqb, ne-eqb, le-leb, lt-ltb}
-use Rattle.lists.proofs.Tests.{both}
-use Rattle.tables.specs.Layout.{NONE, fragments, operations, sets}
+use borrow.Author.Tests.{eq-eqb, ne-eqb}
+use Rattle.tables.specs.Layout.{NONE, fragments, sets}
 use Rattle.tables.specs.Image.{countAt}
-use Rattle.tables.specs.Columns.{field, spread, selectionKind, selectionTarget, setBelow, fragmentSet, isFragmentSet}
+use Rattle.tables.specs.Columns.{field, spread, selectionKind, selectionTarget, fragmentSet}
 use Rattle.tables.specs.Good.{Good, StandsIn, GoodOwned}
+use Rattle.tables.proofs.ColumnLaws.{below-spread, below-own}
 use Rattle.variable.proofs.ReachMeaning.{few-sets, stands-row}
 use Rattle.fragment.specs.Chains.{below, isSpread}
 
@@ -21,27 +21,9 @@ pub data LeadsOn (image : List ℕ) (s r : ℕ) : Type 0 where
   to-own : isSpread image r ≡ false → s < below image r → below image r < countAt image sets → LeadsOn image s r
   to-fragment : isSpread image r ≡ true → selectionTarget image r < countAt image fragments → below image r ≡ fragmentSet image (selectionTarget image r) → LeadsOn image s r
 
--- a spread leads to its fragment's set
-pub by-fragment : (image : List ℕ) (r : ℕ) → selectionKind image r ≡ spread → below image r ≡ fragmentSet image (selectionTarget image r)
-unfolding setBelow
-by-fragment image r e = rw (eq-eqb _ _ e)
-
--- any other selection to its own set, or to none
-pub by-own : (image : List ℕ) (r : ℕ) → (selectionKind image r ≡ spread → ⊥) → below image r ≡ selectionTarget image r
-unfolding setBelow
-by-own image r ne = rw (ne-eqb _ _ ne)
-
 module _ {image : List ℕ} (good : Good image) where
   pub fragment-set-in : (f : ℕ) → f < countAt image fragments → fragmentSet image f < countAt image sets
   fragment-set-in f h = good .fragment f h .set
-
-  pub is-fragment-set : (f : ℕ) → f < countAt image fragments → isFragmentSet image (fragmentSet image f) ≡ true
-  unfolding isFragmentSet
-  is-fragment-set f h =
-      let e = good .fragment f h .set-number in
-      let from : countAt image operations ≤ fragmentSet image f = omega arith in
-      let to : fragmentSet image f < countAt image operations + countAt image fragments = omega arith in
-      both (le-leb _ _ from) (lt-ltb _ _ to)
 
   -- an existing set is not NONE
   pub known-some : {t : ℕ} → t < countAt image sets → t ≡ NONE → ⊥
@@ -52,7 +34,7 @@ module _ {image : List ℕ} (good : Good image) where
     unfolding isSpread
     own ne o =
         let home = good .one-home r s st in
-        let target = by-own image r ne in
+        let target = below-own image r ne in
         to-own (ne-eqb _ _ ne) (rw target (rw (← home) at (o .later))) (rw target (o .known))
 
     pub leads : LeadsOn image s r
@@ -60,10 +42,10 @@ module _ {image : List ℕ} (good : Good image) where
     leads =
         let g = good .selection r (stands-row image good r s st) in
         elim (ℕ-discrete (selectionKind image r) spread) [
-          | yes e ↦ to-fragment (eq-eqb _ _ e) (g .spread-target e) (by-fragment image r e)
+          | yes e ↦ to-fragment (eq-eqb _ _ e) (g .spread-target e) (below-spread image r e)
           | no ne ↦ elim (ℕ-discrete (selectionKind image r) field) [
             | yes f ↦ elim (ℕ-discrete (selectionTarget image r) NONE) [
-              | yes n ↦ nowhere (by-own image r ne ∙ n) (ne-eqb _ _ ne)
+              | yes n ↦ nowhere (below-own image r ne ∙ n) (ne-eqb _ _ ne)
               | no m ↦ own ne (g .field-row f .owned m)
             ]
             | no nf ↦ own ne (g .inline-owned (omega (arith, g .kind)))

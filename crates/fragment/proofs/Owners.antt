@@ -1,17 +1,17 @@
 -- Every set of a good image lies inside an operation or a fragment. Assumes nothing.
 use Prim.Native.Nat.{ℕ, zero, suc, _+_, _-_, _<_, _≤_}
 use mathlib.Core.Path.{_≡_, refl, subst, _∙_}
-use mathlib.Core.Bool.{Bool, true, false, cond, false≢true}
+use mathlib.Core.Logic.{⊎-elim}
+use mathlib.Core.Bool.{Bool, true, false, cond}
 use mathlib.Core.List.{List}
 use native.Mathlib.Omega.{arith}
-use native.Mathlib.Decide.{decLe, ℕ-discrete}
-use borrow.Author.Tests.{eq-eqb, ne-eqb}
-use Rattle.lists.specs.Every.{total}
+use native.Mathlib.Decide.{decLe}
 use Rattle.tables.specs.Layout.{operations, fragments, sets, selections}
 use Rattle.tables.specs.Image.{countAt}
-use Rattle.tables.specs.Columns.{field, spread, inline, selectionKind, selectionTarget, selectionAt, fragmentSet}
+use Rattle.tables.specs.Columns.{spread, selectionKind, selectionTarget, selectionAt, fragmentSet}
 use Rattle.tables.specs.Selections.{ownsSet, nextSet}
 use Rattle.tables.specs.Good.{Good, GoodOwned, StandsIn}
+use Rattle.tables.proofs.ColumnLaws.{owners, next-set-first, next-set-more}
 use Rattle.fragment.specs.Meaning.{Inside, at-top, deeper}
 
 pub data Owner (image : List ℕ) (s : ℕ) : Type 0 where
@@ -27,29 +27,24 @@ record Owning (image : List ℕ) (s : ℕ) : Type 0 where
 
 module _ {image : List ℕ} (good : Good image) where
   owning-below : (n s : ℕ) → n ≤ countAt image selections → countAt image operations + countAt image fragments ≤ s → s < nextSet image n → Owning image s
-  unfolding nextSet total
-  owning-below zero s le from to = absurd (omega arith)
+  owning-below zero s le from to = absurd (omega (arith, next-set-first image))
   owning-below (suc n) s le from to =
       elim (decLe (suc s) (nextSet image n)) [
         | yes before ↦ owning-below n s (omega arith) from before
-        | no here ↦ go (ownsSet (selectionAt image n)) refl (omega arith) to
+        | no here ↦ go (ownsSet (selectionAt image n)) refl (omega arith) (rw (more, next-set-more image n) at to)
       ]
     where
+      more : suc n ≡ n + 1
+      more = omega arith
+
       go : (b : Bool) → ownsSet (selectionAt image n) ≡ b → nextSet image n ≤ s → s < nextSet image n + cond b 1 0 → Owning image s
       go true e least most = record { row = n; known = le; owns = e; number = omega arith }
       go false e least most = absurd (omega arith)
 
   owned-by : {s : ℕ} (o : Owning image s) → GoodOwned image (o .row) × (selectionKind image (o .row) ≡ spread → ⊥)
-  unfolding ownsSet
   owned-by o =
       let row = good .selection (o .row) (o .known) in
-      elim (ℕ-discrete (selectionKind image (o .row)) inline) [
-        | yes i ↦ (row .inline-owned i, λ e. omega arith)
-        | no ni ↦ elim (ℕ-discrete (selectionKind image (o .row)) field) [
-          | yes f ↦ (row .field-row f .owned (λ e. false≢true (rw (ne-eqb _ _ ni, eq-eqb _ _ f, eq-eqb _ _ e) at (o .owns))), λ e. omega arith)
-          | no nf ↦ absurd (false≢true (rw (ne-eqb _ _ ni, ne-eqb _ _ nf) at (o .owns)))
-        ]
-      ]
+      ⊎-elim (λ i. (row .inline-owned i, λ e. omega arith)) (λ f. (row .field-row (f .0) .owned (f .1), λ e. omega (arith, f .0))) (owners image (o .row) (o .owns))
 
   in-owner : {t r u : ℕ} → Owner image t → StandsIn image r t → (selectionKind image r ≡ spread → ⊥) → selectionTarget image r ≡ u → u < countAt image sets → Owner image u
   in-owner (of-operation l i) st ne e known = of-operation l (deeper i st ne e known)

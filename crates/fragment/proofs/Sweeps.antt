@@ -25,7 +25,8 @@ use Rattle.fragment.specs.Chains.{below, Link, Sound}
 use Rattle.fragment.specs.Heights.{through, highest, heightOf}
 use Rattle.fragment.specs.Rounds.{heightAt, withHeight, sameHeight, setHeight, measured, changes, sweep, sweepChanges}
 use Rattle.fragment.proofs.HeightLaws as laws
-use Rattle.fragment.proofs.Links.{LeadsOn, nowhere, to-own, to-fragment, leads, is-fragment-set}
+use Rattle.tables.proofs.ColumnLaws.{is-fragment-set}
+use Rattle.fragment.proofs.Links.{LeadsOn, nowhere, to-own, to-fragment, leads}
 use Rattle.fragment.proofs.Covered.{Covers, height-sound, height-covers, fixed-covers}
 
 -- ---- one set stored

@@ -14,7 +14,7 @@ use Rattle.lists.specs.Part.{Outside}
 use Rattle.lists.proofs.EveryLaws.{position-found, position-none, position-le, position-passes, before-position}
 use Rattle.lists.proofs.Parts.{le-or-lt, set-outside}
 use Rattle.index.specs.declared.Index.{Index}
-use Rattle.index.specs.Indexed.{keyAt, firstPlace, wordsOf, Linked, Indexed, Links, Apart, Firsts, Built}
+use Rattle.index.specs.Indexed.{keyAt, firstPlace, wordsOf, Linked, Links, Apart, Firsts, Built}
 use Rattle.index.proofs.IndexLaws.{linked-kept}
 
 -- ---- keys that agree

@@ -1,6 +1,6 @@
 -- Laws of the first fault of many: `a ▷ b`, and `firstFault`. Assumes nothing.
 use Prim.Native.Nat.{ℕ, zero, suc, _+_, _<_, _≤_}
-use mathlib.Core.Path.{_≡_, refl, sym, _∙_}
+use mathlib.Core.Path.{_≡_, refl, sym}
 use mathlib.Core.Bool.{Bool, true, false}
 use mathlib.Core.Option.{Option, none, some}
 use native.Mathlib.Omega.{arith}
@@ -56,3 +56,29 @@ module _ {A : Type 0} (fault : ℕ → Option A) where
         | yes p ↦ rw p (next-none (firstFault fault n) (fault n) e)
         | no q ↦ each-none n (first-none (firstFault fault n) (fault n) e) t (omega arith)
       ]
+
+-- ---- what every fault has
+
+-- a fault, if there is one, has the property
+abbrev pub AllSome : {A : Type 0} → (A → Type 0) → Option A → Type 0
+AllSome P none = Unit {0}
+AllSome P (some x) = P x
+
+module _ {A : Type 0} (P : A → Type 0) where
+  pub all-expect : (b : Bool) (x : A) → P x → AllSome P (expect b x)
+  unfolding expect
+  all-expect true x p = tt
+  all-expect false x p = p
+
+  pub all-next : (a b : Option A) → AllSome P a → AllSome P b → AllSome P (a ▷ b)
+  unfolding _▷_
+  all-next none b p q = q
+  all-next (some x) b p q = p
+
+  pub all-first : (f : ℕ → Option A) (n : ℕ) → ((t : ℕ) → AllSome P (f t)) → AllSome P (firstFault f n)
+  unfolding firstFault
+  all-first f zero all = tt
+  all-first f (suc n) all = all-next (firstFault f n) (f n) (all-first f n all) (all n)
+
+  pub of-some : {x : A} (o : Option A) → o ≡ some x → AllSome P o → P x
+  of-some o e all = rw e at all

@@ -1,10 +1,9 @@
 -- Every reply has one of the causes of `Given`. Assumes nothing.
 use Prim.Native.Nat.{ℕ, zero, suc, _+_, _<_, _≤_}
-use mathlib.Core.Path.{_≡_, refl, sym, ap, _∙_, subst}
+use mathlib.Core.Path.{_≡_, refl, subst}
 use mathlib.Core.Bool.{Bool, true, false}
 use mathlib.Core.List.{List}
 use mathlib.Core.Option.{Option, none, some}
-use native.Mathlib.Decide.{decLe}
 use native.Mathlib.Omega.{arith}
 use borrow.Author.Tests.{leb-true, leb-false}
 use lib.Dec.{leb}
@@ -15,9 +14,9 @@ use Rattle.merge_theory.proofs.Theorems.{never-deep}
 use Rattle.tables.specs.Layout.{operations}
 use Rattle.tables.specs.Image.{countAt}
 use Rattle.tables.specs.Header.{Refusal, headerFault}
-use Rattle.tables.specs.RowFault.{rowFault, imageFault}
+use Rattle.tables.specs.RowFault.{rowFault}
 use Rattle.tables.specs.Good.{Good}
-use Rattle.tables.proofs.Promise.{good-image}
+use Rattle.tables.proofs.Promise.{rows-good}
 use Rattle.variable.specs.Verdict.{Shown, usageFault}
 use Rattle.fragment.specs.Rules as fragment
 use Rattle.selection.specs.declared.arena.Reply.{Reply}
@@ -28,8 +27,7 @@ use Rattle.query.proofs.Soundness.{operation-sound}
 
 module _ {image : List ℕ} where
   pub sane-good : Sane image → Good image
-  unfolding imageFault _▷_
-  sane-good sane = good-image image (rw (sane .header) (sane .rows))
+  sane-good sane = rows-good (sane .header) (sane .rows)
 
   -- the levels of the walk suffice
   pub never-too-deep : (work used i : ℕ) → Sane image → i < countAt image operations → check (documentOf image) work used i ≡ deep → ⊥

@@ -8,7 +8,7 @@ use Rattle.tables.specs.Layout.{operations}
 use Rattle.tables.specs.Image.{countAt}
 use Rattle.selection.specs.declared.arena.Reply.{Reply}
 use Rattle.query.specs.Reply.{answer, operationsFrom}
-use Rattle.query.specs.Operation.{operationReply, Ready, Lent, Checked, CheckedAll}
+use Rattle.query.specs.Operation.{operationReply, Lent, Checked, CheckedAll}
 use Rattle.query.proofs.OneOperation.{stops, goes-on, used-within}
 
 -- i operations pass, and the reply is what the others say from there

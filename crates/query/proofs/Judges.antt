@@ -1,5 +1,5 @@
 -- The stages of the check: the room that each has, and a law for each `return`. Assumes nothing.
-use Prim.Native.Nat.{ℕ, _+_, _-_, _*_, _≤_, min}
+use Prim.Native.Nat.{ℕ, _+_, _-_, _≤_, min}
 use mathlib.Core.Path.{_≡_, refl, sym, ap, _∙_}
 use mathlib.Core.Bool.{Bool, true, false}
 use mathlib.Core.List.{List, [], _∷_, _++_}
@@ -7,20 +7,20 @@ use mathlib.Core.Option.{Option, none, some}
 use native.Mathlib.Omega.{arith}
 use borrow.Author.Tests.{leb-true}
 use lib.Dec.{leb}
-use lib.ListN.{length, take, drop, replicate, length-append, length-drop, length-replicate}
+use lib.ListN.{length, take, drop, replicate, length-append, length-replicate}
 use lib.Seq.{length-take-le}
 use Rattle.lists.specs.First.{expect, _▷_}
 use Rattle.lists.specs.Part.{write}
 use Rattle.lists.proofs.Parts.{length-write}
 use Rattle.lists.proofs.FirstLaws.{some-is-not-none}
-use Rattle.tables.specs.Layout.{sets, selections, operations}
+use Rattle.tables.specs.Layout.{selections}
 use Rattle.tables.specs.Image.{countAt}
 use Rattle.tables.specs.Header.{Refusal, headerFault}
 use Rattle.tables.specs.RowFault.{rowFault, imageFault, rowsShow}
 use Rattle.tables.specs.declared.rows.Rows.{Rows}
 use Rattle.tables.specs.declared.rows.Rows.the-variants as rows
 use Rattle.tables.specs.Good.{Good}
-use Rattle.tables.proofs.Promise.{good-image}
+use Rattle.tables.proofs.Promise.{good-image, rows-decide}
 use Rattle.variable.specs.Uses.{usesWords}
 use Rattle.fragment.specs.Rules as fragment
 use Rattle.fragment.specs.declared.rules.Fragments.{Fragments}
@@ -29,7 +29,7 @@ use Rattle.selection.specs.declared.arena.Reply.{Reply}
 use Rattle.selection.specs.Regions.{arenaOf}
 use Rattle.selection.proofs.StepLaws.{store-is}
 use Rattle.query.specs.Needed.{mostWork, scratchNeeded}
-use Rattle.query.specs.Reply.{answer, ofImage, ofFragments, orElse, refused, faulty, operationsFrom, reply, scratchAfter}
+use Rattle.query.specs.Reply.{answer, ofImage, refused, faulty, reply, scratchAfter}
 use Rattle.query.specs.Refusing.{refusedShows}
 use Rattle.query.specs.declared.refuse.Refused.{Refused}
 use Rattle.query.specs.declared.refuse.Refused.the-variants as refusing
@@ -77,8 +77,7 @@ module _ {image : List ℕ} {work : ℕ} where
   -- ---- rows
   module _ (s : List ℕ) (room : Room image work (length s)) (r : Rows) (shows : rowsShow r ≡ imageFault image) where
     rows-shown : rowsShow r ≡ rowFault image
-    unfolding imageFault _▷_
-    rows-shown = rw (room .header) at shows
+    rows-shown = shows ∙ rows-decide image (room .header)
 
     pub fits-after : r ≡ rows.Good → Fits image work (length s)
     fits-after good = record { good = good-image image (sym shows ∙ ap rowsShow good); limit = room .limit; room = room .room }

@@ -1,13 +1,13 @@
 -- The words that an operation is lent: in front those of the rules on variables, behind them the walk's. Assumes nothing.
 use Prim.Native.Nat.{ℕ, _+_, _-_, _<_, _≤_}
 use mathlib.Core.Path.{_≡_, refl, sym, ap, _∙_}
-use mathlib.Core.List.{List, [], _++_, append-nil}
+use mathlib.Core.List.{List, _++_, append-nil}
 use mathlib.Core.Option.{some, none}
 use native.Mathlib.Omega.{arith}
 use lib.ListN.{length, getD, take, drop, length-append, length-drop, drop-of-length-le}
 use lib.Seq.{take-all, length-take-le, getD-drop, getD-append-add}
 use Rattle.lists.specs.Part.{Outside}
-use Rattle.tables.specs.Layout.{operations, selections}
+use Rattle.tables.specs.Layout.{operations}
 use Rattle.tables.specs.Image.{countAt}
 use Rattle.tables.specs.Good.{Good}
 use Rattle.variable.specs.Uses.{usesWords}

@@ -1,6 +1,6 @@
 -- One operation after another: what its own answer says of the reply. Assumes nothing.
-use Prim.Native.Nat.{ℕ, zero, suc, _+_, _-_, _<_, _≤_}
-use mathlib.Core.Path.{_≡_, refl, sym, ap, _∙_}
+use Prim.Native.Nat.{ℕ, suc, _-_, _<_, _≤_}
+use mathlib.Core.Path.{_≡_, refl}
 use mathlib.Core.List.{List}
 use mathlib.Core.Option.{Option, none, some}
 use native.Mathlib.Omega.{arith}
@@ -14,12 +14,12 @@ use Rattle.tables.specs.Image.{countAt}
 use Rattle.tables.specs.Good.{Good}
 use Rattle.variable.specs.Verdict.{Shown, usageFault}
 use Rattle.fragment.specs.Rules as fragment
-use Rattle.selection.specs.declared.arena.Reply.{Reply}
 use Rattle.selection.specs.Refining.{replyOf}
-use Rattle.query.specs.Reply.{answer, documentOf, ofVariables, ofWalk, orElse, operationsFrom}
+use Rattle.query.specs.Reply.{documentOf, ofVariables, ofWalk, orElse, operationsFrom}
 use Rattle.query.specs.Operation.{operationReply}
 use Rattle.query.proofs.Soundness.{operation-sound}
-use Rattle.query.proofs.ShownKinds.{of-some, usage-kind}
+use Rattle.lists.proofs.FirstLaws.{of-some}
+use Rattle.query.proofs.ShownKinds.{usage-kind}
 
 pub cause-number : (c : Cause) → (14 ≤ numberOf c) × (numberOf c ≤ 16)
 cause-number shape = (omega arith, omega arith)

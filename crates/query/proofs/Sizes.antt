@@ -1,28 +1,25 @@
 -- Kinds 1 to 3: how few words are needed, and a law for each `return`. Assumes nothing.
-use Prim.Native.Nat.{ℕ, zero, suc, _+_, _*_, _<_, _≤_}
-use mathlib.Core.Path.{_≡_, refl, sym, _∙_}
+use Prim.Native.Nat.{ℕ, _+_, _*_, _<_, _≤_}
+use mathlib.Core.Path.{_≡_}
 use mathlib.Core.List.{List}
-use mathlib.Core.Option.{Option, none, some}
+use mathlib.Core.Option.{none, some}
 use native.Mathlib.Omega.{arith}
 use borrow.Author.Tests.{le-leb, lt-leb}
-use lib.ListN.{length}
 use Rattle.lists.specs.First.{expect, _▷_}
 use Rattle.lists.specs.Every.{total}
-use Rattle.tables.specs.Layout.{tableCount}
 use Rattle.tables.specs.Image.{wordAt, countAt}
 use Rattle.tables.specs.Header.{headerShows, headerFault}
 use Rattle.tables.specs.declared.header.Header.{Header}
 use Rattle.tables.specs.declared.header.Header.the-variants.{Wrong}
-use Rattle.tables.proofs.Tidy.{nine-tables, good-header, no-limit-over}
-use Rattle.tables.proofs.Widths.{one-edition}
+use Rattle.tables.proofs.Tidy.{nine-exactly, nine-tables, good-header, no-limit-over}
 use Rattle.query.specs.Needed.{mostWork, rowsInAll, scratchNeeded}
-use Rattle.query.specs.Reply.{answer, ofImage, refused}
+use Rattle.query.specs.Reply.{answer, refused}
 use Rattle.query.specs.Refusing.{sizesFault}
 
 -- the nine counts
 pub nine-counts : (image : List ℕ) → rowsInAll image ≡ countAt image 0 + countAt image 1 + countAt image 2 + countAt image 3 + countAt image 4 + countAt image 5 + countAt image 6 + countAt image 7 + countAt image 8
-unfolding rowsInAll tableCount total
-nine-counts image = rw (one-edition (wordAt image 0)) (omega arith)
+unfolding rowsInAll total
+nine-counts image = rw (nine-exactly (wordAt image 0)) (omega arith)
 
 module _ (image : List ℕ) (good : headerFault image ≡ none) where
   few-in : (t : ℕ) → t < 9 → countAt image t ≤ 16384

@@ -1,29 +1,27 @@
 -- A good image without causes of kinds 5 to 8 is a sound document, at every operation: the comparisons of fields are equivalences, and
 -- the number of links from a set falls along every link and stays below the limit. Assumes nothing.
-use Prim.Native.Nat.{ℕ, suc, _+_, _<_, _≤_}
-use mathlib.Core.Path.{_≡_, refl, sym, ap, _∙_}
+use Prim.Native.Nat.{ℕ, _<_}
+use mathlib.Core.Path.{_≡_, refl, sym, _∙_}
 use mathlib.Core.Bool.{Bool, true, false, cond}
 use mathlib.Core.List.{List, [], _∷_}
-use mathlib.Core.Option.{Option, none, some}
+use mathlib.Core.Option.{none, some}
 use native.Mathlib.Omega.{arith}
 use borrow.Author.Tests.{eqb-false}
 use lib.Dec.{eqb}
-use Rattle.lists.specs.First.{_▷_}
 use Rattle.lists.proofs.FirstLaws.{first-none, next-none}
 use Rattle.merge_theory.specs.Lists.{_∈_, here, there}
-use Rattle.merge_theory.specs.Document.{Document, setOf, listed, Equivalence, FieldAt, field-at, Sound, IsField}
+use Rattle.merge_theory.specs.Document.{setOf, listed, Equivalence, FieldAt, field-at, Sound}
 use Rattle.merge_theory.specs.Rule.{Reached, start, onward}
 use Rattle.merge_theory.proofs.ListLaws.{not-in-nil}
-use Rattle.merge_theory.proofs.Equivalences.{narrow}
 use Rattle.tables.specs.Layout.{NONE, operations, sets, selections}
 use Rattle.tables.specs.Image.{countAt}
 use Rattle.tables.specs.Columns.{selectionAt, setSelections, setBelow}
-use Rattle.tables.specs.Rows.{setEnd}
 use Rattle.tables.specs.Good.{Good, StandsIn}
+use Rattle.tables.proofs.ColumnLaws.{stands, stands-below}
 use Rattle.variable.specs.Reach as reach
 use Rattle.fragment.specs.Chains.{Link}
-use Rattle.fragment.specs.Heights.{linksFrom, mostLinks}
-use Rattle.fragment.specs.Rules.{cycleFault, chainFault, linksFault, nestingFault, unusedFault, fragmentsFault}
+use Rattle.fragment.specs.Heights.{linksFrom}
+use Rattle.fragment.specs.Rules.{fragmentsFault}
 use Rattle.fragment.proofs.Theorems.{reached-ranked}
 use Rattle.fragment.proofs.ChainLaws.{link-in}
 use Rattle.values.specs.Fields.{FieldRow}
@@ -51,16 +49,13 @@ linked v {u} m = by-none (eqb v NONE) refl m
 module _ {image : List ℕ} (good : Good image) where
   -- the rows of a set that is there stand in it
   stands-in : {s row : ℕ} → s < countAt image sets → row ∈ documentOf image .rowsOf s → StandsIn image row s
-  unfolding documentBy setEnd
+  unfolding documentBy
   stands-in {s} {row} known m =
       let between = up-from (setSelections image s .first) (setSelections image s .count) m in
-      record { known = known; from = between .0; below = between .1 }
+      stands known (between .0) (between .1)
 
   row-known : {s row : ℕ} → s < countAt image sets → row ∈ documentOf image .rowsOf s → row < countAt image selections
-  unfolding setEnd
-  row-known {s} known m =
-      let stands = stands-in known m in
-      omega (arith, stands .below, good .set s known .within .ends)
+  row-known {s} known m = omega (arith, stands-below (stands-in known m), good .set s known .within .ends)
 
   a-link : {s row t : ℕ} → s < countAt image sets → row ∈ documentOf image .rowsOf s → t ∈ setOf (documentOf image) row → Link image s row t
   unfolding documentBy setOf

@@ -1,6 +1,6 @@
 -- Document 01's specimens hold: one table, one statement, by computation. Assumes nothing.
 use mathlib.Core.Path.{_≡_, refl}
-use mathlib.Core.List.{List, map}
+use mathlib.Core.List.{map}
 use Rattle.merge_theory.specs.Walk as walk
 use Rattle.fragment.proofs.Specimens as fragment
 use Rattle.variable.specs.Types.{isNonNull}
@@ -10,7 +10,6 @@ use Rattle.variable.specs.Verdict.{usesFault, definedFault}
 use Rattle.values.specs.Same.{sameList, hasKey, keysWithin, matched, sameSet, sameBy, sameValue, sameArguments}
 use Rattle.values.specs.Shape.{isLeaf, areNames, areLists, sameNamed, sameShapeIn, sameShape}
 use Rattle.selection.specs.ImageDocument.{upFrom, kindFrom, linkFrom, documentBy}
-use Rattle.selection.specs.declared.arena.Reply.{Reply}
 use Rattle.query.specs.Needed.{rowsInAll, scratchNeeded}
 use Rattle.query.specs.Reply.{refused, faulty, operationsFrom, reply}
 use Rattle.query.specs.Specimens.{Specimen, specimens}

@@ -7,12 +7,12 @@
 --     passes-exactly       no cause of 1 to 13, and the budget covers the walk: 0 exactly if the pairwise rule holds for every set reached
 --     given-once           two replies with a cause are one
 --     larger-budget-same   a larger budget, up to the limit and with scratch to match, changes no answer but 3 and 17
-use Prim.Native.Nat.{ℕ, zero, suc, _+_, _-_, _<_, _≤_}
+use Prim.Native.Nat.{ℕ, zero, suc, _-_, _<_, _≤_}
 use mathlib.Core.Path.{_≡_, refl, sym, ap, _∙_, subst}
 use mathlib.Core.Logic.{_↔_}
-use mathlib.Core.List.{List, []}
+use mathlib.Core.List.{List}
 use mathlib.Core.Option.{Option, none, some}
-use native.Mathlib.Nat.{le-refl, le-trans}
+use native.Mathlib.Nat.{le-refl}
 use native.Mathlib.Decide.{ℕ-discrete}
 use native.Mathlib.Omega.{arith}
 use borrow.Author.Tests.{le-leb, lt-leb}
@@ -20,14 +20,14 @@ use Rattle.lists.specs.First.{expect, _▷_}
 use Rattle.merge_theory.specs.Document.{Cause, shape, name, arguments, numberOf}
 use Rattle.merge_theory.specs.Rule.{start, RuleHolds}
 use Rattle.merge_theory.specs.TrueConflict.{TrueConflict}
-use Rattle.merge_theory.specs.Walk.{Result, finished, conflict, out, deep, IsOut, check}
+use Rattle.merge_theory.specs.Walk.{Result, finished, conflict, out, IsOut, check}
 use Rattle.merge_theory.proofs.Theorems.{conflict-true, conflict-breaks, finished-holds, larger-budget}
 use Rattle.tables.specs.Layout.{operations}
 use Rattle.tables.specs.Image.{countAt}
 use Rattle.tables.specs.Header.{Refusal, headerFault}
-use Rattle.tables.specs.RowFault.{rowFault, imageFault}
+use Rattle.tables.specs.RowFault.{rowFault}
 use Rattle.tables.specs.Good.{Good}
-use Rattle.tables.proofs.Promise.{good-image}
+use Rattle.tables.proofs.Promise.{rows-good}
 use Rattle.variable.specs.Verdict.{Shown, usageFault}
 use Rattle.variable.specs.Rules.{Verdict}
 use Rattle.variable.proofs.VerdictMeaning.{verdict-exactly}
@@ -36,10 +36,12 @@ use Rattle.fragment.specs.Meaning.{Finds}
 use Rattle.fragment.proofs.Theorems.{fragments-decided}
 use Rattle.selection.specs.declared.arena.Reply.{Reply}
 use Rattle.query.specs.Needed.{mostWork, scratchNeeded}
-use Rattle.query.specs.Reply.{answer, documentOf, ofImage, ofFragments, ofVariables, ofWalk, orElse, refused, faulty, operationsFrom, reply}
+use Rattle.query.specs.Reply.{answer, documentOf, refused, faulty, operationsFrom, reply}
 use Rattle.query.specs.Given.{Sane, Ran, ran-none, ran-more, Enough, Given, bad-header, over-limit, short-scratch, bad-row, bad-fragments, bad-variables, a-conflict, budget-spent, passes}
 use Rattle.query.proofs.Soundness.{operation-sound}
-use Rattle.query.proofs.ShownKinds.{of-some, header-kind, row-kind, fragments-kind}
+use Rattle.lists.proofs.FirstLaws.{of-some}
+use Rattle.tables.proofs.ShownKinds.{header-kind, row-kind}
+use Rattle.query.proofs.ShownKinds.{fragments-kind}
 use Rattle.query.proofs.OneOperation.{cause-number, usage-10-13}
 pub use Rattle.query.proofs.Cases.{sane-good, given}
 
@@ -274,10 +276,6 @@ larger-budget-same image less more long long′ le limit scratch h3 h17 =
     (given-more image less more long long′ le (record { budget = λ over. omega arith; scratch = λ short. omega arith }) (reply image less long) (given image less long) h3 h17)
 
 -- ---- demand 2: kinds 5 to 13 say which rule fails and where, and 0 that every rule holds
-
-rows-good : {image : List ℕ} → headerFault image ≡ none → rowFault image ≡ none → Good image
-unfolding imageFault _▷_
-rows-good {image} header rows = good-image image (rw header rows)
 
 module _ (image : List ℕ) (work long : ℕ) where
   fragments-of : (r : Reply) → Given image work long r → 5 ≤ r .kind → r .kind ≤ 9 → Finds image (some (fragment.refusal (r .kind) (r .operation) (r .a)))

@@ -1,7 +1,6 @@
 -- What the check replies (document 01, "The reply"): the order of all kinds, and what each shows. Hold it beside 01's table.
 -- Assumes nothing.
 use Prim.Native.Nat.{ℕ, zero, suc}
-use mathlib.Core.Bool.{Bool}
 use mathlib.Core.List.{List, _++_}
 use mathlib.Core.Option.{Option, none, some}
 use lib.Dec.{leb}

@@ -2,19 +2,19 @@
 -- Assumes nothing.
 use mathlib.Core.Path.{_≡_, refl, sym, ap, _∙_, subst}
 use mathlib.Core.Logic.{_⊎_, inl, inr, ⊎-elim}
-use mathlib.Core.Bool.{Bool, true, false, not, cond, _&&_, false≢true}
+use mathlib.Core.Bool.{Bool, true, false, not, _&&_, false≢true}
 use mathlib.Core.List.{List}
 use Prim.Native.Nat.{ℕ, _+_, _*_, _≤_, _<_, min}
 use native.Mathlib.Nat.{add-mul, mul-le-mul-right}
 use native.Mathlib.Decide.{ℕ-discrete}
 use native.Mathlib.Omega.{arith}
 use lib.Dec.{eqb, ltb}
-use lib.ListN.{length, getD, set, length-set}
+use lib.ListN.{length, getD, set}
 use lib.Seq.{getD-set-same, getD-set-other}
 use borrow.Author.Tests.{eq-eqb, ne-eqb, eqb-true, lt-ltb, le-ltb}
 use Rattle.lists.specs.Every.{position, find}
 use Rattle.lists.specs.Part.{Outside}
-use Rattle.lists.proofs.EveryLaws.{position-found, position-none, position-le, position-passes, position-below, before-position}
+use Rattle.lists.proofs.EveryLaws.{position-passes, position-below}
 use Rattle.lists.proofs.Parts.{le-or-lt, outside-none, outside-wider, outside-trans, set-outside}
 use Rattle.lists.proofs.Tests.{both, first-of, second-of, first-fails, second-fails}
 use Rattle.tables.specs.Columns.{typeKind, responseName, objectType}

@@ -16,10 +16,10 @@ use Rattle.merge_theory.proofs.ListLaws.{not-in-nil}
 use Rattle.tables.specs.declared.Range.{Range}
 use Rattle.tables.specs.Layout.{NONE, operations, fragments, sets, selections}
 use Rattle.tables.specs.Image.{countAt}
-use Rattle.tables.specs.Columns.{field, spread, inline, selectionKind, selectionTarget, selectionAt, setSelections, fragmentSet, setBelow}
-use Rattle.tables.specs.Rows.{setEnd}
+use Rattle.tables.specs.Columns.{field, spread, inline, selectionKind, selectionTarget, selectionAt, setSelections, fragmentSet}
 use Rattle.tables.specs.Selections.{ownsSet}
 use Rattle.tables.specs.Good.{Good, GoodOwned, GoodSelection, StandsIn}
+use Rattle.tables.proofs.ColumnLaws.{below-spread, below-own, inline-owns, field-owns, stands}
 use Rattle.selection.specs.ImageDocument.{upFrom, kindFrom, linkFrom, documentBy}
 use Rattle.selection.specs.Expanding.{Once, once-none, once-more}
 use Rattle.selection.proofs.ParentsLaws.{few-rows}
@@ -50,14 +50,6 @@ up-snoc first (suc n) =
 -- ---- whose a set is
 
 module _ {image : List ℕ} (good : Good image) where
-  inline-owns : (r : ℕ) → selectionKind image r ≡ inline → ownsSet (selectionAt image r) ≡ true
-  unfolding ownsSet
-  inline-owns r e = rw e
-
-  pub field-owns : (r : ℕ) → selectionKind image r ≡ field → (selectionTarget image r ≡ NONE → ⊥) → ownsSet (selectionAt image r) ≡ true
-  unfolding ownsSet
-  field-owns r e owns = rw (e, ne-eqb _ _ owns)
-
   -- a set that two selections own has one owner
   pub one-owned : {q r : ℕ} → ownsSet (selectionAt image q) ≡ true → ownsSet (selectionAt image r) ≡ true → GoodOwned image q → GoodOwned image r
       → selectionTarget image q ≡ selectionTarget image r → q ≡ r
@@ -65,7 +57,7 @@ module _ {image : List ℕ} (good : Good image) where
 
   pub one-inline : {q r : ℕ} → selectionKind image q ≡ inline → selectionKind image r ≡ inline → GoodOwned image q → GoodOwned image r
       → selectionTarget image q ≡ selectionTarget image r → q ≡ r
-  one-inline {q} {r} p o a b e = one-owned (inline-owns q p) (inline-owns r o) a b e
+  one-inline {q} {r} p o a b e = one-owned (inline-owns image q p) (inline-owns image r o) a b e
 
   known-some : {u : ℕ} → u < countAt image sets → u ≡ NONE → ⊥
   known-some h e = omega (arith, few-rows good sets (omega arith))
@@ -77,7 +69,7 @@ module _ {image : List ℕ} (good : Good image) where
   pub field-apart : {q r : ℕ} → selectionKind image q ≡ field → GoodOwned image q → selectionKind image r ≡ inline → GoodOwned image r
       → selectionTarget image q ≡ selectionTarget image r → ⊥
   field-apart {q} {r} p a o b e =
-      let same = one-owned (field-owns q p (known-some (a .known))) (inline-owns r o) a b e in
+      let same = one-owned (field-owns image q p (known-some (a .known))) (inline-owns image r o) a b e in
       let both : field ≡ inline = sym p ∙ ap (selectionKind image) same ∙ o in
       omega arith
 
@@ -128,8 +120,8 @@ module _ {image : List ℕ} (good : Good image) (sameShape : ℕ → ℕ → Boo
 
   -- a field's own set is its target
   pub field-set : selectionKind image r ≡ field → {u : ℕ} → u ∈ setOf D r → (selectionTarget image r ≡ u) × (u ≡ NONE → ⊥)
-  unfolding setOf documentBy setBelow
-  field-set e {u} m = link-is (selectionTarget image r) (rw e at m)
+  unfolding setOf documentBy
+  field-set e {u} m = link-is (selectionTarget image r) (rw (below-own image r (λ s. omega arith)) at m)
 
   link-some : (u : ℕ) → u < countAt image sets → listed (linkFrom u) ≡ u ∷ []
   unfolding linkFrom
@@ -137,12 +129,12 @@ module _ {image : List ℕ} (good : Good image) (sameShape : ℕ → ℕ → Boo
 
   pub spread-set : selectionKind image r ≡ spread → selectionTarget image r < countAt image fragments
       → setOf D r ≡ (countAt image operations + selectionTarget image r) ∷ []
-  unfolding setOf documentBy setBelow
-  spread-set e h = rw (e, fragment-set-is good h) (link-some _ (fragment-set-known good h))
+  unfolding setOf documentBy
+  spread-set e h = rw (below-spread image r e, fragment-set-is good h) (link-some _ (fragment-set-known good h))
 
   pub inline-set : selectionKind image r ≡ inline → GoodOwned image r → setOf D r ≡ selectionTarget image r ∷ []
-  unfolding setOf documentBy setBelow
-  inline-set e own = rw e (link-some _ (own .known))
+  unfolding setOf documentBy
+  inline-set e own = rw (below-own image r (λ s. omega arith)) (link-some _ (own .known))
 
 -- a row of a good image is of one of three kinds
 pub data RowKind (image : List ℕ) (r : ℕ) : Type 0 where
@@ -166,7 +158,7 @@ row-kind {image} good r h =
 -- the rows of a set stand in it
 pub rows-stand : {image : List ℕ} → Good image → (sameShape : ℕ → ℕ → Bool) (sameArguments : Range → Range → Bool) (u : ℕ) {r : ℕ} → u < countAt image sets
     → r ∈ documentBy sameShape sameArguments image .rowsOf u → StandsIn image r u
-unfolding documentBy setEnd
+unfolding documentBy
 rows-stand {image} good sameShape sameArguments u h m =
     let in-range = up-from (setSelections image u .first) (setSelections image u .count) m in
-    record { known = h; from = in-range .0; below = in-range .1 }
+    stands h (in-range .0) (in-range .1)

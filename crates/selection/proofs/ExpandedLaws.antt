@@ -38,10 +38,6 @@ stores-same {s} {s′} {at} {n} {ws} long same r =
     record { inside = in-new; words = words ∙ r .words }
 
 module _ {image : List ℕ} {arena : Arena} {s s′ : List ℕ} {from end : ℕ} (f : Framed image arena s s′ from end) where
-  -- the parents are as before
-  pub parents-kept : {at n : ℕ} {ws : List ℕ} → at + n ≤ arena .marks → Stores s at n ws → Stores s′ at n ws
-  parents-kept h = stores-same (f .long) (λ k _ less. f .parents k (omega arith))
-
   -- what the store has below the list is as before
   pub known-kept : {at n : ℕ} {ws : List ℕ} → arena .store ≤ at → at + n ≤ arena .store + from → Stores s at n ws → Stores s′ at n ws
   known-kept above below = stores-same (f .long) (λ k more less. f .known k (omega arith) (omega arith))

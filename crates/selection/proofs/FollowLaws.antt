@@ -1,7 +1,7 @@
 -- Going along the links of a list: a link leads where a search would end. Assumes what `Threaded` says.
 use mathlib.Core.Path.{_≡_, refl, sym, ap, _∙_}
 use mathlib.Core.Logic.{inl, inr, ⊎-elim}
-use mathlib.Core.Bool.{Bool, true, false, cond, not, _&&_, and-false, false≢true}
+use mathlib.Core.Bool.{Bool, true, false, cond, not, _&&_, and-false, false≢true, and-true}
 use mathlib.Core.List.{List}
 use Prim.Native.Nat.{ℕ, _+_, _≤_, _<_}
 use native.Mathlib.Omega.{arith}
@@ -17,7 +17,7 @@ use Rattle.selection.specs.declared.arena.List as places
 use Rattle.selection.specs.declared.groups.Segment.{Segment}
 use Rattle.selection.specs.declared.groups.Cursor.{Cursor}
 use Rattle.selection.specs.Places.{seek, rowIn}
-use Rattle.selection.specs.Grouping.{ofKind, segment, everyParent, oneParent, abstractParent, hasObjectParent, belongs, memberPlace, nameAt, parentAt, nameSegment, pairSegment, isFirstOfName, opensSubgroup, groupPlace, subgroupPlace, othersPlace, firstSubgroup, laterSubgroup, nextSubgroup, Proper, of-all, of-object, of-others}
+use Rattle.selection.specs.Grouping.{ofKind, segment, everyParent, oneParent, abstractParent, hasObjectParent, belongs, memberPlace, nameAt, parentAt, nameSegment, pairSegment, isFirstOfName, opensSubgroup, groupPlace, subgroupPlace, firstSubgroup, laterSubgroup, nextSubgroup, Proper, of-all, of-object, of-others}
 use Rattle.selection.specs.Following.{linkAt, columnOf, followed, groupFound, opensAt, Threaded, Follows, FindsSubgroup, FindsOthers, FirstSubgroup, Open, LaterSubgroup, NextSubgroup}
 use Rattle.selection.proofs.PlaceLaws.{Passed, passed-none, passed-trans, passed-more, seek-ge, seek-passes, seek-passed, seek-is, seek-further, seek-cong}
 
@@ -48,10 +48,6 @@ follow-late s arena kind place end over = go (ltb place (linkAt s arena place (c
 -- ---- segments
 
 module _ (image s : List ℕ) where
-  and-true : (b : Bool) → (b && true) ≡ b
-  and-true true = refl
-  and-true false = refl
-
   pub belongs-name : (name row : ℕ) → belongs image s (segment name everyParent 0) row ≡ eqb (responseName image row) name
   unfolding belongs ofKind
   belongs-name name row = and-true (eqb (responseName image row) name)

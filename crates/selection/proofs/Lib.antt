@@ -2,7 +2,6 @@
 --     ParentsLaws   the parents' loops
 --     OnceLaws      lists without repetition, and the pigeonhole
 --     DocumentLaws  rows of a good image as the document has them
---     StartLaws     what an expansion may start from
 --     QueueRows     what the queue holds: each set once
 --     ExpandedLaws  what a caller takes from the contracts of expanding
 --     StepLaws      a row done, by its kind, and rows in order
@@ -31,7 +30,6 @@
 pub mod ParentsLaws
 pub mod OnceLaws
 pub mod DocumentLaws
-pub mod StartLaws
 pub mod ExpandedLaws
 pub mod QueueRows
 pub mod StepLaws

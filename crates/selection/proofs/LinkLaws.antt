@@ -12,7 +12,7 @@ use lib.ListN.{length, getD, set, length-set}
 use lib.Seq.{getD-set-same, getD-set-other}
 use borrow.Author.Tests.{eq-eqb, ne-eqb, eqb-true, leb-true, ltb-true, le-leb, lt-leb, lt-ltb, le-ltb}
 use Rattle.lists.proofs.Parts.{le-or-lt}
-use Rattle.lists.proofs.EveryLaws.{before-position, position-le}
+use Rattle.lists.proofs.EveryLaws.{before-position}
 use Rattle.lists.proofs.Tests.{both, all-three, first-fails, second-fails}
 use Rattle.selection.specs.declared.arena.List as places
 use Rattle.selection.specs.declared.links.Chain.{Chain}
@@ -461,17 +461,3 @@ linked-frame {s} {s″} {c} {x} rows classes links linked = record {
 
     tests : (q p : ℕ) → x .start ≤ q → q < x .end → x .start ≤ p → p < x .end → eqb (classAt s c q) (classAt s c p) ≡ eqb (classAt s″ c q) (classAt s″ c p)
     tests q p m l h less = rw (same q m l, same p h less)
-
-module _ {s : List ℕ} {c : Chain} {x : places.List} (linked : Linked s c x) (p : ℕ) (h : x .start ≤ p) (less : p < x .end) where
-  -- a link goes on, stays in the list, and leads to a place of the same class or to the end
-  pub next-after : p < nextAt s c p
-  next-after = rw (linked .next p h less) (omega (arith, seek-ge (λ q. eqb (classAt s c q) (classAt s c p)) (p + 1) (x .end)))
-
-  pub next-within : nextAt s c p ≤ x .end
-  next-within = rw (linked .next p h less) (seek-le (λ q. eqb (classAt s c q) (classAt s c p)) (p + 1) (x .end) (omega arith))
-
-  pub next-alike : nextAt s c p < x .end → classAt s c (nextAt s c p) ≡ classAt s c p
-  next-alike more =
-      let is = linked .next p h less in
-      subst (λ (q : ℕ). classAt s c q ≡ classAt s c p) (sym is)
-      (eqb-true _ _ (seek-passes (λ q. eqb (classAt s c q) (classAt s c p)) (p + 1) (x .end) (omega (arith, is, more))))

@@ -8,7 +8,7 @@ use lib.ListN.{length, replicate}
 use Rattle.lists.specs.Part.{write, Stores, Outside}
 use Rattle.lists.proofs.Parts.{stores-none, outside-wider}
 use Rattle.merge_theory.specs.Rule.{Reached, start}
-use Rattle.merge_theory.specs.Walk.{Step, Pass, walk}
+use Rattle.merge_theory.specs.Walk.{Step, walk}
 use Rattle.merge_theory.proofs.ListLaws.{not-in-nil, only}
 use Rattle.tables.specs.Layout.{operations, fragments, sets}
 use Rattle.tables.specs.Image.{countAt}

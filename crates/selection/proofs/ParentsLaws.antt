@@ -17,6 +17,7 @@ use Rattle.tables.specs.Rows.{setEnd, setStart}
 use Rattle.tables.specs.Good.{Good, StandsIn}
 use Rattle.tables.proofs.Ranges.{row-in}
 use Rattle.tables.proofs.Tidy.{no-limit-over}
+use Rattle.tables.proofs.ColumnLaws.{stands, set-start-none, set-start-next}
 use Rattle.selection.specs.Parents.{Filled, ParentsBelow}
 
 -- a good image's tables are small
@@ -44,17 +45,14 @@ filled-more rows i v {at} {s} {s′} f e put = rw put record {
 
 module _ (image : List ℕ) (good : Good image) where
   pub parents-none : (s : List ℕ) → ParentsBelow image (setStart image 0) s s
-  unfolding setStart
-  parents-none s = record { words = λ r h. absurd (omega arith); frame = outside-none 0 0 s }
+  parents-none s = rw (set-start-none image) (record { words = λ r h. absurd (omega arith); frame = outside-none 0 0 s })
 
   next-start : (i : ℕ) → setStart image (i + 1) ≡ setSelections image i .first + setSelections image i .count
-  unfolding setStart setEnd
-  next-start i = ap (setStart image) (add-one i)
+  next-start i = ap (setStart image) (add-one i) ∙ set-start-next image i
 
   pub parents-more : (i : ℕ) {s s′ s″ : List ℕ} → i < countAt image sets → countAt image selections ≤ length s
       → ParentsBelow image (setStart image i) s s′ → Filled (setSelections image i .first) (setSelections image i .count) (setParent image i) s′ s″
       → ParentsBelow image (setStart image (i + 1)) s s″
-  unfolding setEnd
   parents-more i {s} {s′} {s″} h room p f =
       let first = setSelections image i .first in
       let n = setSelections image i .count in
@@ -66,8 +64,7 @@ module _ (image : List ℕ) (good : Good image) where
       rw (next-start i) record {
         words = λ r less.
             ⊎-elim (λ from.
-            let stands : StandsIn image r i = record { known = h; from = from; below = less } in
-            f .words small (omega arith) r from less ∙ ap (setParent image) (good .one-home r i stands))
+            f .words small (omega arith) r from less ∙ ap (setParent image) (good .one-home r i (stands h from less)))
             (λ before. frame .below r before ∙ p .words r (omega arith))
             (le-or-lt first r);
         frame = outside-trans (outside-wider (p .frame) 0 (first + n) (omega arith) (omega arith)) (outside-wider frame 0 (first + n) (omega arith) (omega arith));

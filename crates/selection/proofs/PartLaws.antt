@@ -2,7 +2,7 @@
 -- places that the searches give. `Grounded` is what they take for granted. Assumes nothing else.
 use mathlib.Core.Path.{_≡_, refl, sym, ap, _∙_}
 use mathlib.Core.Logic.{_⊎_, inl, inr, ⊎-elim}
-use mathlib.Core.Bool.{Bool, true, false, cond, not, _&&_, and-false, false≢true, _||_}
+use mathlib.Core.Bool.{Bool, true, false, cond, not, _&&_, and-false, false≢true, _||_, and-true}
 use mathlib.Core.List.{List, [], _∷_, _++_, append-nil, map}
 use Prim.Native.Nat.{ℕ, suc, _+_, _-_, _≤_, _<_}
 use native.Mathlib.Decide.{ℕ-discrete}
@@ -21,7 +21,7 @@ use Rattle.selection.specs.declared.groups.Segment.{Segment}
 use Rattle.selection.specs.declared.groups.Cursor.{Cursor}
 use Rattle.selection.specs.KnownLists.{AtHand}
 use Rattle.selection.specs.Places.{seek, rowIn, before, onward, appears, freshFrom}
-use Rattle.selection.specs.Grouping.{ofKind, member, segment, everyParent, oneParent, abstractParent, hasObjectParent, belongs, memberPlace, nameAt, parentAt, isFirstOfName, opensSubgroup, groupPlace, subgroupPlace, firstSubgroup, laterSubgroup, nextSubgroup, groupPart, subgroupPart, partRows, othersPlace, Grounded, PartAt, Proper, of-all, of-object, of-others}
+use Rattle.selection.specs.Grouping.{ofKind, member, segment, everyParent, oneParent, abstractParent, hasObjectParent, belongs, memberPlace, nameAt, parentAt, isFirstOfName, opensSubgroup, groupPlace, subgroupPlace, firstSubgroup, laterSubgroup, nextSubgroup, groupPart, subgroupPart, partRows, othersPlace, Grounded, PartAt, of-all, of-object, of-others}
 use Rattle.selection.proofs.PlaceLaws.{row-is, eqb-sym, none-seen, fresh-rest, seek-ge, seek-skips, seek-passes, Found, found, found-row, filter-skip, filter-cong, filter-filter, onward-start, onward-over, before-start, appears-by, fresh-all, fresh-here, fresh-skip, fresh-over}
 
 -- what a search for the first appearance of a key found
@@ -48,10 +48,6 @@ found-key {s} {store} {x} {l} key among list test from {q} low agree e =
       same = skips;
       opens = opens;
     }
-
-and-true : (b : Bool) → (b && true) ≡ b
-and-true true = refl
-and-true false = refl
 
 abbrev pub all : ℕ → Bool
 all f = true
@@ -426,9 +422,6 @@ module _ {D : Document} {image s : List ℕ} {store : ℕ} {x : places.List} {l 
       (found-at : p ≡ subgroupPlace image s store x (nameAt image s store q) q) where
     low-q : x .start ≤ q
     low-q = omega (arith, fk .ahead)
-
-    nameQ : ℕ
-    nameQ = D .nameOf (fieldAt x l q)
 
     row-q : rowIn s store q ≡ fieldAt x l q
     row-q = field-is q low-q less

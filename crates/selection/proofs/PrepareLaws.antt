@@ -1,6 +1,6 @@
 -- Parents and classes, written one after the other, are what the walk takes for granted. Assumes nothing.
-use mathlib.Core.Path.{_≡_, refl, sym, ap, _∙_}
-use mathlib.Core.Bool.{Bool, true, false, not, _&&_}
+use mathlib.Core.Path.{_≡_, refl, ap, _∙_}
+use mathlib.Core.Bool.{Bool, true, false, _&&_}
 use mathlib.Core.List.{List}
 use Prim.Native.Nat.{ℕ, _+_, _*_, _≤_, _<_}
 use native.Mathlib.Omega.{arith}
@@ -15,7 +15,7 @@ use Rattle.tables.specs.Good.{Good}
 use Rattle.selection.specs.Regions.{rowsAtMost}
 use Rattle.selection.specs.Parents.{Parents}
 use Rattle.selection.specs.Classing.{parentClass, Classes}
-use Rattle.selection.specs.Classes.{sameParent, Classed, Prepared, Prepares}
+use Rattle.selection.specs.Classes.{sameParent, Prepared, Prepares}
 use Rattle.selection.proofs.StepLaws.{rows-all}
 use Rattle.selection.proofs.ClassLaws.{name-below, same-names, pair-below, same-pairs, object-classes, other-classes}
 

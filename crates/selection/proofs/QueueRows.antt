@@ -18,14 +18,13 @@ use Rattle.tables.specs.Layout.{operations, fragments, sets, selections}
 use Rattle.tables.specs.Image.{countAt}
 use Rattle.tables.specs.Columns as columns
 use Rattle.tables.specs.Columns.{selectionKind, selectionTarget, setSelections}
-use Rattle.tables.specs.Rows.{setEnd}
-use Rattle.tables.specs.Good.{GoodOwned, StandsIn}
+use Rattle.tables.specs.Good.{Good, GoodOwned, StandsIn}
+use Rattle.tables.proofs.ColumnLaws.{stands-below}
 use Rattle.selection.specs.declared.arena.Arena.{Arena}
 use Rattle.selection.specs.ImageDocument.{documentBy}
 use Rattle.selection.specs.Expanding.{Once, once-none, once-more, StartSet, of-operation, of-field, Fresh}
 use Rattle.selection.specs.ExpandSteps.{Task, documentOf}
 use Rattle.selection.proofs.OnceLaws.{once-append, once-flatMap, once-below, filter-shorter}
-use Rattle.selection.proofs.StartLaws.{start-known}
 use Rattle.selection.proofs.DocumentLaws.{up-once, one-inline, field-owned, field-apart, fragment-set-known, field-kind, spread-kind, inline-kind, spread-set, inline-set, RowKind, a-field, a-spread, an-inline, row-kind, rows-stand}
 
 pub true-or-false : (b : Bool) → (b ≡ true) ⊎ (b ≡ false)
@@ -34,6 +33,11 @@ true-or-false false = inr refl
 
 true-not-false : true ≡ false → ⊥
 true-not-false h = let z : _≡_ {A = ℕ} 0 1 = cc in omega arith
+
+-- an expansion starts from sets that are there
+start-known : {image : List ℕ} → Good image → {u : ℕ} → StartSet image u → u < countAt image sets
+start-known good {u} (of-operation h) = good .operation u h .set
+start-known good (of-field r h kind e less) = less
 
 -- ---- one row, by its kind
 
@@ -200,7 +204,7 @@ module _ {image : List ℕ} {arena : Arena} (t : Task image arena) where
 
   -- the rows of distinct sets are distinct rows of the table
   pub rows-fresh : (visited : List ℕ) → Once visited → Every (λ u. u < countAt image sets) visited → Fresh image (flatMap (D .rowsOf) visited)
-  unfolding setEnd documentBy
+  unfolding documentBy
   rows-fresh visited o all = record {
     inside = λ r m. let (u, i, j) = from-flatMap (D .rowsOf) visited m in inside-of u (all u i) r j;
     once = once-flatMap (D .rowsOf) visited o (λ u i. rows-once u)
@@ -211,7 +215,7 @@ module _ {image : List ℕ} {arena : Arena} (t : Task image arena) where
       stands u h r m = rows-stand (t .good) (t .sameShape) (t .sameArguments) u h m
 
       inside-of : (u : ℕ) → u < countAt image sets → (r : ℕ) → r ∈ D .rowsOf u → r < countAt image selections
-      inside-of u h r m = omega (arith, stands u h r m .below, t .good .set u h .within .ends)
+      inside-of u h r m = omega (arith, stands-below (stands u h r m), t .good .set u h .within .ends)
 
       rows-once : (u : ℕ) → Once (D .rowsOf u)
       rows-once u = up-once (setSelections image u .first) (setSelections image u .count)

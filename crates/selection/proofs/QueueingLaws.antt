@@ -2,22 +2,22 @@
 use mathlib.Core.Path.{_≡_, refl, sym, ap, _∙_}
 use mathlib.Core.Bool.{Bool, true, false, cond, not, _&&_}
 use mathlib.Core.Option.{none, some}
-use mathlib.Core.Logic.{inr}
 use mathlib.Core.List.{List, [], _∷_, _++_, append-nil, append-assoc}
 use Prim.Native.Nat.{ℕ, zero, suc, _+_, _-_, _≤_, _<_}
 use native.Mathlib.Omega.{arith}
 use lib.Dec.{T, eqb, ltb}
-use lib.ListN.{length, getD, length-append}
+use lib.ListN.{length, length-append}
 use borrow.Author.Tests.{ne-eqb, eqb-true}
 use Rattle.lists.specs.Part.{Stores, Outside}
-use Rattle.lists.proofs.Parts.{outside-none, outside-trans, outside-wider, stores-kept, stores-length}
-use Rattle.merge_theory.specs.Lists.{_∈_, here, there, flatMap, filter, keep}
+use Rattle.lists.proofs.Parts.{outside-none, outside-trans, outside-wider, stores-length}
+use Rattle.merge_theory.specs.Lists.{here, flatMap, filter, keep}
 use Rattle.merge_theory.specs.Document.{Document, isField, listed, setOf, FieldAt, field-at}
 use Rattle.merge_theory.specs.Document as kinds
 use Rattle.merge_theory.specs.Walk.{hasRows, setsBelow}
 use Rattle.merge_theory.proofs.Loops.{filter-append, flatMap-append}
 use Rattle.tables.specs.Layout.{NONE}
-use Rattle.tables.specs.Columns.{field, selectionKind, selectionTarget, setSelections, setBelow}
+use Rattle.tables.specs.Columns.{field, selectionKind, selectionTarget, setSelections}
+use Rattle.tables.proofs.ColumnLaws.{below-own}
 use Rattle.selection.specs.declared.arena.Arena.{Arena}
 use Rattle.selection.specs.declared.arena.Walk as states
 use Rattle.selection.specs.declared.arena.List as places
@@ -30,7 +30,7 @@ use Rattle.selection.specs.Places.{rowIn, onward}
 use Rattle.selection.specs.Expanding.{queueNext, queueWords}
 use Rattle.selection.specs.Grouping.{member, belongs, memberPlace, partRows, Proper}
 use Rattle.selection.specs.Following.{followed}
-use Rattle.selection.specs.Refining.{document, Site, Rows}
+use Rattle.selection.specs.Refining.{document, Site}
 use Rattle.selection.specs.Comparing.{hasSet, fieldNext, fieldWords, CanQueue, QueuesSegment, QueuesPart}
 use Rattle.selection.proofs.PlaceLaws.{Found, found-here}
 use Rattle.selection.proofs.PartLaws.{belongs-is, member-found}
@@ -61,8 +61,8 @@ some-rows first zero = refl
 some-rows first (suc n) = sym (ap not (ne-eqb (suc n) 0 (λ e. omega arith)))
 
 own-set : (image : List ℕ) (f : ℕ) → selectionKind image f ≡ field → filter (λ t. hasRows (document image .rowsOf t)) (setOf (document image) f) ≡ cond (hasSet image f) (selectionTarget image f ∷ []) []
-unfolding setOf documentBy linkFrom setBelow hasSet filter
-own-set image f kind = rw kind (by-none (eqb (selectionTarget image f) NONE))
+unfolding setOf documentBy linkFrom hasSet filter
+own-set image f kind = rw (below-own image f (λ s. omega arith)) (by-none (eqb (selectionTarget image f) NONE))
   where
     t : ℕ
     t = selectionTarget image f

@@ -15,7 +15,7 @@ use Rattle.selection.specs.declared.arena.Arena.{Arena}
 use Rattle.selection.specs.declared.arena.Walk as states
 use Rattle.selection.specs.declared.arena.List as places
 use Rattle.selection.specs.declared.walk.Met.{Met}
-use Rattle.selection.specs.KnownLists.{Known, AtHand, headAt, keptWords}
+use Rattle.selection.specs.KnownLists.{AtHand, headAt, keptWords}
 use Rattle.selection.specs.Refining.{Holds, Tells, charged, lengthOf, entered, metList, metWords, MeetsList, Site, Kept, Refines}
 use Rattle.selection.proofs.KnownLaws.{head-is, ToldBelow, keeps, known-more}
 

@@ -8,7 +8,7 @@ use native.Mathlib.Omega.{arith}
 use lib.Dec.{eqb}
 use lib.ListN.{length, getD}
 use Rattle.lists.specs.Part.{Outside}
-use Rattle.lists.proofs.Parts.{stores-kept, stores-length}
+use Rattle.lists.proofs.Parts.{stores-length}
 use Rattle.merge_theory.specs.Lists.{_∈_, here, there}
 use Rattle.tables.specs.Layout.{selections}
 use Rattle.tables.specs.Image.{countAt}
@@ -22,8 +22,8 @@ use Rattle.selection.specs.Classes.{sameParent, Classed, Prepared}
 use Rattle.selection.specs.Regions.{Places}
 use Rattle.selection.specs.Linking.{classAt, nextAt, firstAt, Linked, Linkable, Links}
 use Rattle.selection.specs.Standing.{namesChain, pairsChain, Stands, LinkFrame, LinkableBoth, Stood}
-use Rattle.selection.specs.Places.{seek, rowIn}
-use Rattle.selection.specs.Grouping.{ofKind, segment, oneParent, abstractParent, hasObjectParent, belongs, memberPlace, nameAt, parentAt, nameSegment, pairSegment, Grounded}
+use Rattle.selection.specs.Places.{rowIn}
+use Rattle.selection.specs.Grouping.{segment, oneParent, abstractParent, hasObjectParent, belongs, nameAt, parentAt, nameSegment, pairSegment, Grounded}
 use Rattle.selection.specs.Following.{linkAt, Threaded}
 use Rattle.selection.specs.Refining.{document, Site, Rows, Kept}
 use Rattle.selection.proofs.ExpandedLaws.{stores-same}

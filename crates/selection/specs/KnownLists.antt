@@ -10,7 +10,7 @@
 --     isListAt s at b n       the list that is kept at at is the n words from b
 use mathlib.Core.Path.{_≡_}
 use mathlib.Core.Bool.{Bool, cond, _&&_}
-use mathlib.Core.List.{List, [], _∷_, _++_}
+use mathlib.Core.List.{List, _∷_, _++_}
 use Prim.Native.Nat.{ℕ, zero, suc, _+_, _-_, _*_, _≤_, min}
 use lib.Dec.{eqb, leb}
 use lib.ListN.{length, getD, set}

@@ -6,7 +6,7 @@ use Prim.Native.Nat.{ℕ, suc, _+_, _≤_, _<_}
 use lib.ListN.{length, getD}
 use Rattle.merge_theory.specs.Document.{Sound}
 use Rattle.merge_theory.specs.Rule.{Reached}
-use Rattle.merge_theory.specs.Walk.{finished, Pass, walk, check}
+use Rattle.merge_theory.specs.Walk.{finished, walk, check}
 use Rattle.tables.specs.Layout.{operations, selections}
 use Rattle.tables.specs.Image.{countAt}
 use Rattle.tables.specs.Good.{Good}

@@ -1,20 +1,25 @@
--- Laws of the columns for the crates above: keys by table, kinds of types, and how few rows a good image has.
+-- Laws of the columns for the crates above, which unfold nothing of this one: keys by table, kinds of types, where a selection leads,
+-- which of them own a set, what stands in a set, and how few rows a good image has.
 -- Assumes nothing.
-use Prim.Native.Nat.{ℕ, _<_, _≤_}
+use Prim.Native.Nat.{ℕ, suc, _+_, _<_, _≤_}
 use mathlib.Core.Path.{_≡_, refl}
-use mathlib.Core.Bool.{true, false}
+use mathlib.Core.Logic.{_⊎_, inl, inr}
+use mathlib.Core.Bool.{Bool, true, false, cond, not, _&&_, _||_, false≢true}
 use mathlib.Core.List.{List, map}
 use native.Mathlib.Omega.{arith}
-use borrow.Author.Tests.{le-leb, lt-leb}
-use lib.Dec.{leb, leb→le}
-use Rattle.lists.proofs.Tests.{second-fails}
-use Rattle.tables.specs.Layout.{NONE, Table, edition1, mostRows, arguments, values}
+use borrow.Author.Tests.{le-leb, lt-leb, lt-ltb, eq-eqb, ne-eqb, eqb-true, eqb-false}
+use lib.Dec.{eqb, leb, leb→le}
+use Rattle.lists.proofs.Tests.{both, second-fails}
+use Rattle.tables.specs.Layout.{NONE, Table, edition1, mostRows, operations, fragments, sets, arguments, values}
 use Rattle.tables.specs.Image.{wordAt, countAt}
-use Rattle.tables.specs.Columns.{isComposite, argumentName, valueKey}
+use Rattle.tables.specs.Columns.{isComposite, argumentName, valueKey, field, spread, inline, selectionKind, selectionTarget, selectionAt, setSelections, setBelow, fragmentSet, isFragmentSet}
 use Rattle.tables.specs.Keys.{keyOf}
-use Rattle.tables.specs.Good.{Good}
+use Rattle.tables.specs.Rows.{setStart, setEnd}
+use Rattle.tables.specs.Selections.{ownsSet, nextSet}
+use Rattle.tables.specs.Good.{Good, StandsIn}
 use Rattle.tables.proofs.Lists.{everywhere}
 use Rattle.tables.proofs.Widths.{most-of}
+use Rattle.tables.proofs.HomeLaws as homes
 
 -- the key of an argument is its name, that of a member its key
 pub argument-key : (image : List ℕ) (r : ℕ) → keyOf image arguments r ≡ argumentName image r
@@ -37,6 +42,67 @@ below-composites kind h = rw (lt-leb 1 kind h)
 pub above-composites : (kind : ℕ) → 4 ≤ kind → isComposite kind ≡ false
 unfolding isComposite
 above-composites kind h = second-fails (leb 1 kind) (lt-leb kind 3 (omega arith))
+
+-- a spread leads to its fragment's set, any other selection to its own, or to none
+pub below-spread : (image : List ℕ) (r : ℕ) → selectionKind image r ≡ spread → setBelow image (selectionAt image r) ≡ fragmentSet image (selectionTarget image r)
+unfolding setBelow
+below-spread image r e = rw (eq-eqb _ _ e)
+
+pub below-own : (image : List ℕ) (r : ℕ) → (selectionKind image r ≡ spread → ⊥) → setBelow image (selectionAt image r) ≡ selectionTarget image r
+unfolding setBelow
+below-own image r ne = rw (ne-eqb _ _ ne)
+
+pub is-fragment-set : {image : List ℕ} → Good image → (f : ℕ) → f < countAt image fragments → isFragmentSet image (fragmentSet image f) ≡ true
+unfolding isFragmentSet
+is-fragment-set {image} good f h =
+    let e = good .fragment f h .set-number in
+    let from : countAt image operations ≤ fragmentSet image f = omega arith in
+    let to : fragmentSet image f < countAt image operations + countAt image fragments = omega arith in
+    both (le-leb _ _ from) (lt-ltb _ _ to)
+
+-- inlines own a set, and fields whose target is one
+pub inline-owns : (image : List ℕ) (r : ℕ) → selectionKind image r ≡ inline → ownsSet (selectionAt image r) ≡ true
+unfolding ownsSet
+inline-owns image r e = rw e
+
+pub field-owns : (image : List ℕ) (r : ℕ) → selectionKind image r ≡ field → (selectionTarget image r ≡ NONE → ⊥) → ownsSet (selectionAt image r) ≡ true
+unfolding ownsSet
+field-owns image r e owns = rw (e, ne-eqb _ _ owns)
+
+pub owners : (image : List ℕ) (r : ℕ) → ownsSet (selectionAt image r) ≡ true → (selectionKind image r ≡ inline) ⊎ ((selectionKind image r ≡ field) × (selectionTarget image r ≡ NONE → ⊥))
+unfolding ownsSet
+owners image r e = go (eqb (selectionKind image r) inline) (eqb (selectionKind image r) field) (eqb (selectionTarget image r) NONE) refl refl refl e
+  where
+    go : (a b c : Bool) → eqb (selectionKind image r) inline ≡ a → eqb (selectionKind image r) field ≡ b → eqb (selectionTarget image r) NONE ≡ c → (a || (b && not c)) ≡ true
+        → (selectionKind image r ≡ inline) ⊎ ((selectionKind image r ≡ field) × (selectionTarget image r ≡ NONE → ⊥))
+    go true b c i f n e = inl (eqb-true _ _ i)
+    go false true false i f n e = inr (eqb-true _ _ f, eqb-false _ _ n)
+    go false true true i f n e = absurd (false≢true e)
+    go false false c i f n e = absurd (false≢true e)
+
+-- the number of the next set that a selection owns
+pub next-set-first : (image : List ℕ) → nextSet image 0 ≡ countAt image operations + countAt image fragments
+next-set-first image = homes.next-set-first image
+
+pub next-set-more : (image : List ℕ) (r : ℕ) → nextSet image (r + 1) ≡ nextSet image r + cond (ownsSet (selectionAt image r)) 1 0
+next-set-more image r = homes.next-set-more image r
+
+-- the rows of a set stand in it
+pub stands : {image : List ℕ} {r s : ℕ} → s < countAt image sets → setSelections image s .first ≤ r → r < setSelections image s .first + setSelections image s .count → StandsIn image r s
+unfolding setEnd
+stands known from below = record { known = known; from = from; below = below }
+
+pub stands-below : {image : List ℕ} {r s : ℕ} → StandsIn image r s → r < setSelections image s .first + setSelections image s .count
+unfolding setEnd
+stands-below i = i .below
+
+pub set-start-none : (image : List ℕ) → setStart image 0 ≡ 0
+unfolding setStart
+set-start-none image = refl
+
+pub set-start-next : (image : List ℕ) (s : ℕ) → setStart image (suc s) ≡ setSelections image s .first + setSelections image s .count
+unfolding setStart setEnd
+set-start-next image s = refl
 
 -- a table of a good image has no more rows than a word can number
 pub few-rows : (image : List ℕ) → Good image → (t : ℕ) → t < 9 → countAt image t ≤ NONE

@@ -4,13 +4,14 @@ pub mod Widths
 pub mod Innermost
 pub mod Faults
 pub mod Tidy
+pub mod ShownKinds
 pub mod Counts
 pub mod Ranges
-pub mod ColumnLaws
 pub mod Part
 pub mod RowLaws
 pub mod PlainPromise
 pub mod HomeLaws
+pub mod ColumnLaws
 pub mod SelectionLaws
 pub mod SelectionPass
 pub mod LevelLaws

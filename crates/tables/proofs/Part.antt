@@ -7,7 +7,7 @@ use mathlib.Core.Bool.{Bool, true, false, cond}
 use mathlib.Core.Option.{Option, none, some}
 use native.Mathlib.Nat.{add-mul, mul-le-mul-right, add-sub-cancel-left, sub-self}
 use native.Mathlib.Omega.{arith}
-use borrow.Author.Tests.{le-leb, lt-leb, lt-ltb, le-ltb, leb-true}
+use borrow.Author.Tests.{lt-ltb, le-ltb, leb-true}
 use borrow.Rule.Slice.PartAt.{slPart}
 use borrow.Rule.Slice.Shared.{bySize}
 use denote.Ref.{RefT, now}
@@ -20,7 +20,7 @@ use Rattle.tables.specs.Header.{Refusal, headerFault, headerShows}
 use Rattle.tables.specs.Lookup.{unless, rowsPlace, setPlace, PartOf}
 use Rattle.tables.specs.Columns.{setSelections}
 use Rattle.tables.specs.declared.header.Header.{Header}
-use Rattle.tables.specs.declared.header.Header.the-variants.{Good, Wrong}
+use Rattle.tables.specs.declared.header.Header.the-variants.{Wrong}
 use Rattle.tables.specs.declared.lookup.Place.{Place}
 use Rattle.tables.specs.declared.lookup.Place.the-variants.{At, Nowhere}
 use Rattle.tables.proofs.Tidy.{nine-tables, good-header}

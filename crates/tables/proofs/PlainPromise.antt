@@ -1,27 +1,26 @@
 -- What a fault-free image promises of every row: its rule holds. And for the tables whose rows are judged one by one, what the
 -- rules say. Assumes nothing.
 use Prim.Native.Nat.{ℕ, zero, suc, _+_, _<_, _≤_}
-use mathlib.Core.Path.{_≡_, refl, sym, ap, _∙_}
-use mathlib.Core.Bool.{Bool, true, false, cond, _&&_}
+use mathlib.Core.Path.{_≡_}
+use mathlib.Core.Bool.{true, _&&_}
 use mathlib.Core.List.{List}
 use mathlib.Core.Option.{none}
-use native.Mathlib.Nat.{le-refl, le-trans, lt-of-lt-of-le}
+use native.Mathlib.Nat.{lt-of-lt-of-le}
 use native.Mathlib.Decide.{le-ind, decLe}
 use native.Mathlib.Omega.{arith}
 use borrow.Author.Tests.{leb-true, ltb-true, eqb-true, le-leb, lt-leb}
-use lib.Dec.{eqb, leb, ltb}
-use Rattle.lists.specs.First.{firstFault, _▷_}
+use lib.Dec.{eqb, leb}
 use Rattle.lists.proofs.Tests.{first-of, second-of, all-three}
 use Rattle.lists.proofs.FirstLaws.{first-none, next-none, passed, each-none}
 use Rattle.lists.proofs.EveryLaws.{good-before}
 use Rattle.tables.specs.Layout.{types, references, operations, fragments, sets, selections, arguments, values, variables}
 use Rattle.tables.specs.Image.{countAt, liesWithin}
-use Rattle.tables.specs.Columns.{typeName, typeKind, referenceKind, referenceChild, isListReference, isComposite, innermost, fragmentSet, operationVariables, operationDirectives, fragmentDirectives, setParent, setSelections, argumentType, argumentDefault, variableType, variableDefault}
+use Rattle.tables.specs.Columns.{typeName, typeKind, referenceKind, referenceChild, isComposite, innermost, fragmentSet, operationVariables, operationDirectives, fragmentDirectives, setParent, setSelections, argumentType, argumentDefault, variableType, variableDefault}
 use Rattle.tables.specs.Header.{headerFault}
 use Rattle.tables.specs.Rows.{isRow, ascends, goodType, goodChild, goodReference, goodOperation, goodFragment, setStart, goodParent, goodSet, goodArgument, goodVariable}
 use Rattle.tables.specs.Selections.{nextSet}
 use Rattle.tables.specs.Values.{nextValue}
-use Rattle.tables.specs.RowFault.{rowRules, rowRule, firstBad, brokenRow, leftOver, unclaimedFault, rowFault, imageFault, GoodBelow}
+use Rattle.tables.specs.RowFault.{rowRule, firstBad, brokenRow, leftOver, unclaimedFault, rowFault, imageFault, GoodBelow}
 use Rattle.tables.specs.Good as good
 use Rattle.tables.proofs.Counts.{few-rows}
 use Rattle.tables.proofs.Innermost.{named-core, listed-core}

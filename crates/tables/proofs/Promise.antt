@@ -1,6 +1,6 @@
 -- The law of the promise: a fault-free image is good. Assumes nothing.
-use Prim.Native.Nat.{ℕ, zero, suc, _+_, _<_, _≤_}
-use mathlib.Core.Path.{_≡_, refl}
+use Prim.Native.Nat.{ℕ, zero, suc, _+_, _≤_}
+use mathlib.Core.Path.{_≡_, refl, _∙_}
 use mathlib.Core.Bool.{Bool, true, false, cond}
 use mathlib.Core.List.{List}
 use mathlib.Core.Option.{none}
@@ -8,11 +8,13 @@ use native.Mathlib.Nat.{le-refl}
 use native.Mathlib.Decide.{decLe}
 use native.Mathlib.Numerals.{add-one}
 use native.Mathlib.Omega.{arith}
-use Rattle.tables.specs.Layout.{operations, fragments, sets, selections, arguments}
+use Rattle.tables.specs.Layout.{operations, fragments, sets, selections}
 use Rattle.tables.specs.Image.{wordAt, countAt}
-use Rattle.tables.specs.Columns.{selectionAt, fragmentSet}
-use Rattle.tables.specs.Selections.{ownsSet, owned, nextSet}
-use Rattle.tables.specs.RowFault.{imageFault, GoodBelow}
+use Rattle.tables.specs.Columns.{selectionAt}
+use Rattle.tables.specs.Selections.{ownsSet, nextSet}
+use Rattle.lists.specs.First.{_▷_}
+use Rattle.tables.specs.Header.{headerFault}
+use Rattle.tables.specs.RowFault.{rowFault, imageFault, GoodBelow}
 use Rattle.tables.specs.Good.{Good, GoodOwned}
 use Rattle.tables.proofs.Tidy.{nine-tables, good-header}
 use Rattle.tables.proofs.PlainPromise.{good-header-of, every-row, no-set-left, kind-of-type, ascending, reference-row, operation-row, fragment-row, set-row, argument-rule, variable-row}
@@ -79,3 +81,11 @@ module _ (image : List ℕ) (fault-free : imageFault image ≡ none) where
     one-owner = one-owner image;
     all-claimed = all-claimed image fault-free;
   }
+
+-- the fault of an image with a good header is that of its rows
+pub rows-decide : (image : List ℕ) → headerFault image ≡ none → imageFault image ≡ rowFault image
+unfolding imageFault _▷_
+rows-decide image header = rw header
+
+pub rows-good : {image : List ℕ} → headerFault image ≡ none → rowFault image ≡ none → Good image
+rows-good {image} header rows = good-image image (rows-decide image header ∙ rows)

@@ -1,7 +1,7 @@
 -- What a fault-free image promises of its selections: where each stands, which set it owns, and what its kind asks.
 -- Assumes nothing.
 use Prim.Native.Nat.{ℕ, zero, suc, _+_, _<_, _≤_}
-use mathlib.Core.Path.{_≡_, refl, sym, ap, _∙_}
+use mathlib.Core.Path.{_≡_, refl, sym}
 use mathlib.Core.Bool.{Bool, true, false, cond, not, _&&_, _||_, false≢true}
 use mathlib.Core.List.{List}
 use mathlib.Core.Option.{none}
@@ -9,22 +9,21 @@ use native.Mathlib.Decide.{decLe, ℕ-discrete}
 use native.Mathlib.Nat.{le-refl}
 use native.Mathlib.Omega.{arith}
 use borrow.Author.Tests.{leb-true, ltb-true, eqb-true, eq-eqb, ne-eqb}
-use lib.Dec.{eqb, leb, ltb}
+use lib.Dec.{eqb, leb}
 use Rattle.lists.specs.Every.{Distinct, distinct}
-use Rattle.lists.proofs.Tests.{first-of, second-of, all-three, all-four, other-of}
+use Rattle.lists.proofs.Tests.{first-of, second-of, all-three, all-four}
 use Rattle.lists.proofs.EveryLaws.{distinct-holds, total-grows}
-use Rattle.tables.specs.declared.Range.{Range}
 use Rattle.tables.specs.declared.columns.Selection.{Selection}
 use Rattle.tables.specs.Layout.{NONE, references, operations, fragments, sets, selections, arguments}
 use Rattle.tables.specs.Image.{countAt, liesWithin}
-use Rattle.tables.specs.Columns.{field, spread, inline, inputObject, isComposite, innermost, typeKind, setParent, setSelections, selectionKind, fieldType, fieldArguments, selectionTarget, selectionDirectives, selectionAt}
+use Rattle.tables.specs.Columns.{field, spread, inline, inputObject, isComposite, innermost, typeKind, setParent, selectionKind, fieldType, fieldArguments, selectionTarget, selectionAt}
 use Rattle.tables.specs.Keys.{keyIn, keyOf}
 use Rattle.tables.specs.Rows.{isRow, setEnd, setStart}
 use Rattle.tables.specs.Selections.{ownsSet, hasNoFieldWords, mostArguments, goodArguments, coreKind, goodFieldType, goodField, goodSpread, goodByItself, agreesWithParent, goodOwned, selectionRule, owned, nextSet, homeSet, leastOwned, goodSelection}
 use Rattle.tables.specs.RowFault.{rowRule, imageFault, GoodBelow}
 use Rattle.tables.specs.Good as good
-use Rattle.tables.proofs.PlainPromise.{good-header-of, every-row, no-set-left, no-selection-left}
-use Rattle.tables.proofs.HomeLaws.{set-first, start-inside, home-set, least-in-set, next-set-first, next-set-more, next-set-most}
+use Rattle.tables.proofs.PlainPromise.{good-header-of, every-row, no-selection-left}
+use Rattle.tables.proofs.HomeLaws.{set-first, start-inside, home-set, least-in-set, next-set-first, next-set-more}
 
 -- ---- what the rule of a row says, by its kind
 

@@ -1,6 +1,6 @@
 -- What a good header promises, once over the number of tables. Assumes nothing.
 use Prim.Native.Nat.{ℕ, suc, _<_, _≤_, zero-le}
-use mathlib.Core.Path.{_≡_}
+use mathlib.Core.Path.{_≡_, ap}
 use mathlib.Core.List.{List, map}
 use mathlib.Core.Option.{none}
 use native.Mathlib.Nat.{le-refl, le-of-lt}
@@ -44,6 +44,11 @@ module _ (image : List ℕ) (e n : ℕ) (good : firstFault (tableFault image e) 
   }
 
 -- every edition has the nine tables of document 01
+-- every edition so far has nine
+pub nine-exactly : (e : ℕ) → tableCount e ≡ 9
+unfolding tableCount
+nine-exactly e = ap length (one-edition e)
+
 pub nine-tables : (e : ℕ) → 9 ≤ tableCount e
 unfolding tableCount
 nine-tables e = rw (one-edition e) (omega arith)

@@ -1,7 +1,7 @@
 -- What a fault-free image promises of its values: kinds, atoms, members, keys and levels. Assumes nothing.
 use Prim.Native.Nat.{ℕ, zero, suc, _+_, _<_, _≤_}
-use mathlib.Core.Path.{_≡_, refl, sym, ap, _∙_}
-use mathlib.Core.Bool.{Bool, true, false, cond, not, _&&_, _||_}
+use mathlib.Core.Path.{_≡_}
+use mathlib.Core.Bool.{true, false, _&&_}
 use mathlib.Core.List.{List}
 use mathlib.Core.Option.{none}
 use native.Mathlib.Nat.{le-refl}
@@ -11,15 +11,13 @@ use native.Mathlib.Omega.{arith}
 use borrow.Author.Tests.{leb-true, eqb-true, eq-eqb, ne-eqb, le-leb, lt-leb, lt-ltb}
 use lib.Dec.{eqb, leb}
 use Rattle.lists.specs.Every.{absent, distinct}
-use Rattle.lists.proofs.Tests.{first-of, second-of, all-three, other-of}
+use Rattle.lists.proofs.Tests.{first-of, second-of, all-three}
 use Rattle.lists.proofs.EveryLaws.{every-at, distinct-holds, absent-holds}
-use Rattle.tables.specs.declared.Range.{Range}
 use Rattle.tables.specs.Layout.{NONE, arguments, values}
 use Rattle.tables.specs.Image.{countAt, rowIn}
 use Rattle.tables.specs.Columns.{null, boolean, list, object, valueKind, valueKey, valueAtom, valueMembers}
 use Rattle.tables.specs.Keys.{keyIn, keyOf}
-use Rattle.tables.specs.Rows.{isRow}
-use Rattle.tables.specs.Values.{mostMembers, deepestLevel, goodAtom, goodListKeys, goodObjectKeys, goodKeys, isHolder, nextValue, level, goodOwnKey, valueRule, goodValue}
+use Rattle.tables.specs.Values.{mostMembers, goodAtom, goodListKeys, goodObjectKeys, goodKeys, isHolder, nextValue, level, goodOwnKey, valueRule, goodValue}
 use Rattle.tables.specs.RowFault.{imageFault, GoodBelow}
 use Rattle.tables.specs.Good as good
 use Rattle.tables.proofs.PlainPromise.{good-header-of, every-row, no-value-left, argument-rule}

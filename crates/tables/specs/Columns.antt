@@ -1,7 +1,7 @@
 -- The words of each table's rows by name, in the order of document 01 ("The image"), and what they mean together.
 -- Assumes nothing.
 use Prim.Native.Nat.{ℕ, zero, suc, _+_, min}
-use mathlib.Core.Bool.{Bool, true, false, cond, not, _&&_, _||_}
+use mathlib.Core.Bool.{Bool, cond, _&&_}
 use mathlib.Core.List.{List}
 use lib.Dec.{eqb, leb, ltb}
 use Rattle.tables.specs.Layout.{NONE, types, references, operations, fragments, sets, selections, arguments, values, variables}

@@ -1,8 +1,8 @@
 -- Kind 4, table 5: the rules of a selection (document 01, "Row rules"). Two of them lean on other rows: which number the set
 -- that a selection owns must have, and which set the selection stands in.
 -- Assumes nothing.
-use Prim.Native.Nat.{ℕ, zero, suc, _+_}
-use mathlib.Core.Bool.{Bool, true, false, cond, not, _&&_, _||_}
+use Prim.Native.Nat.{ℕ, suc, _+_}
+use mathlib.Core.Bool.{Bool, false, cond, not, _&&_, _||_}
 use mathlib.Core.List.{List}
 use lib.Dec.{eqb, leb, ltb}
 use Rattle.lists.specs.Every.{position, total, distinct}

@@ -10,15 +10,15 @@ use native.Mathlib.Decide.{ℕ-discrete}
 use native.Mathlib.Omega.{arith}
 use lib.Dec.{ltb}
 use lib.ListN.{length, getD}
-use borrow.Author.Tests.{ltb-true, ltb-false, eq-eqb, ne-eqb}
+use borrow.Author.Tests.{ltb-true, ltb-false}
 use Rattle.tables.specs.declared.Range.{Range}
 use Rattle.tables.specs.Layout.{operations, fragments, sets, selections, mostRows}
 use Rattle.tables.specs.Image.{wordAt, countAt, rowIn}
 use Rattle.tables.specs.Columns.{field, spread, inline, setSelections, selectionKind, selectionTarget, selectionAt, fragmentSet, setBelow}
-use Rattle.tables.specs.Rows.{setEnd}
 use Rattle.tables.specs.Good.{Good, StandsIn, GoodOwned}
 use Rattle.tables.proofs.Widths.{most-of}
 use Rattle.tables.proofs.Ranges.{row-in}
+use Rattle.tables.proofs.ColumnLaws.{below-spread, below-own, stands, stands-below}
 use Rattle.variable.specs.Turns.{turns}
 use Rattle.variable.specs.Reach.{Leads, Reaches, itself, onward, SpreadsIn, RowOf, ReachedFrom, LedFrom, SpreadFrom, Among, Walk, begun, led, enterSet, memberOf, walkSelection, walkSet, walkQueue, noneMet, startSets, reachedFrom}
 use Rattle.variable.proofs.WalkLaws.{walk-ends}
@@ -77,18 +77,16 @@ module _ (image : List ℕ) (good : Good image) where
       row-in (setSelections image s) k (omega arith)
 
   pub member-stands : (s k : ℕ) → s < countAt image sets → k < setSelections image s .count → StandsIn image (memberOf image s k) s
-  unfolding setEnd
   member-stands s k h l =
       let row = member-is s k h l in
-      record { known = h; from = omega arith; below = omega arith }
+      stands h (omega arith) (omega arith)
 
   -- a row that stands in a set is a member of it
   pub stands-member : (r s : ℕ) → StandsIn image r s → (k : ℕ) × (k < setSelections image s .count) × (memberOf image s k ≡ r)
-  unfolding setEnd
   stands-member r s i =
       let k = r - setSelections image s .first in
       let from : setSelections image s .first ≤ r = i .from in
-      let below : r < setSelections image s .first + setSelections image s .count = i .below in
+      let below : r < setSelections image s .first + setSelections image s .count = stands-below i in
       let inside : k < setSelections image s .count = omega arith in
       let row = member-is s k (i .known) inside in
       (k, inside, row ∙ omega arith)
@@ -346,19 +344,10 @@ module _ (image : List ℕ) (good : Good image) where
 
   -- ---- what leads to a fragment's set is a spread of it
 
-  by-spread : (r : ℕ) → selectionKind image r ≡ spread → setBelow image (selectionAt image r) ≡ fragmentSet image (selectionTarget image r)
-  unfolding setBelow
-  by-spread r e = rw (eq-eqb _ _ e)
-
-  by-itself : (r : ℕ) → (selectionKind image r ≡ spread → ⊥) → setBelow image (selectionAt image r) ≡ selectionTarget image r
-  unfolding setBelow
-  by-itself r n = rw (ne-eqb _ _ n)
-
   -- the row of a selection that stands in a set
   pub stands-row : (r s : ℕ) → StandsIn image r s → r < countAt image selections
-  unfolding setEnd
   stands-row r s i =
-      let below : r < setSelections image s .first + setSelections image s .count = i .below in
+      let below : r < setSelections image s .first + setSelections image s .count = stands-below i in
       let ends = good .set s (i .known) .within .ends in
       omega arith
 
@@ -378,7 +367,7 @@ module _ (image : List ℕ) (good : Good image) where
       record {
         row = i .row;
         stands = i .stands;
-        below = by-spread (i .row) (i .kind) ∙ ap (fragmentSet image) (i .target);
+        below = below-spread image (i .row) (i .kind) ∙ ap (fragmentSet image) (i .target);
         known = good .fragment f known .set;
       }
 
@@ -391,10 +380,10 @@ module _ (image : List ℕ) (good : Good image) where
         | yes p ↦
             let target = good .selection r row .spread-target p in
             let number′ : fragmentSet image (selectionTarget image r) ≡ countAt image operations + selectionTarget image r = good .fragment (selectionTarget image r) target .set-number in
-            let same : fragmentSet image (selectionTarget image r) ≡ fragmentSet image f = sym (by-spread r p) ∙ l .below in
+            let same : fragmentSet image (selectionTarget image r) ≡ fragmentSet image f = sym (below-spread image r p) ∙ l .below in
             record { row = r; stands = l .stands; kind = p; target = omega arith }
         | no q ↦
-            let same : selectionTarget image r ≡ fragmentSet image f = sym (by-itself r q) ∙ l .below in
+            let same : selectionTarget image r ≡ fragmentSet image f = sym (below-own image r q) ∙ l .below in
             let set = good .fragment f known .set in
             let own = owns r row q (omega arith) .own in
             absurd (omega arith)

@@ -14,6 +14,7 @@ use Rattle.tables.specs.Image.{countAt}
 use Rattle.tables.specs.Columns.{typeKind, referenceKind, referenceChild, isListReference, isComposite, innermost, argumentType, argumentDefault, variableType, variableDefault}
 use Rattle.tables.specs.Good.{Good}
 use Rattle.tables.proofs.Innermost.{named-core, listed-core}
+use Rattle.tables.proofs.ColumnLaws.{a-composite, below-composites, above-composites}
 use Rattle.variable.specs.Types.{Ty, named, listOf, isNonNullType, nullableOf, isInputType, areTypesCompatible, isVariableUsageAllowed, isNonNull, wrapped, typeIn, typeOf, kindAt}
 use Rattle.variable.specs.Definitions.{alike, agreesAt, compatibleIn, compatible, hasDefault, usageAllowed, isOutput}
 use Rattle.variable.proofs.TypeLaws.{compatible-steps}
@@ -83,13 +84,12 @@ placeType dropped t = cond dropped (nullableOf t) t
 
 -- a type is an input type, or composite
 composite-means : (k : ℕ) → k ≤ 5 → isComposite k ≡ not (eqb k 0 || eqb k 4 || eqb k 5)
-unfolding isComposite
-composite-means zero h = refl
-composite-means (suc zero) h = refl
-composite-means (suc (suc zero)) h = refl
-composite-means (suc (suc (suc zero))) h = refl
-composite-means (suc (suc (suc (suc zero)))) h = refl
-composite-means (suc (suc (suc (suc (suc zero))))) h = refl
+composite-means zero h = below-composites 0 (omega arith)
+composite-means (suc zero) h = a-composite 1 (omega arith) (omega arith)
+composite-means (suc (suc zero)) h = a-composite 2 (omega arith) (omega arith)
+composite-means (suc (suc (suc zero))) h = a-composite 3 (omega arith) (omega arith)
+composite-means (suc (suc (suc (suc zero)))) h = above-composites 4 (omega arith)
+composite-means (suc (suc (suc (suc (suc zero))))) h = above-composites 5 (omega arith)
 composite-means (suc (suc (suc (suc (suc (suc k)))))) h = absurd (omega arith)
 
 not-list : (k : ℕ) → ltb k 2 ≡ not (isListReference k)

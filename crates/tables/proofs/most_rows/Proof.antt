@@ -3,7 +3,6 @@
 use mathlib.Core.Path.{sym}
 use borrow.Author.Needs.{needs}
 use Rattle.tables.proofs.Widths.{most-of, no-most-rows}
-use Rattle.tables.specs.Layout.{mostRows}
 use Rattle.tables.proofs.most_rows.Statement.{statement}
 use Rattle.tables.proofs.most_rows.Tie as tie
 

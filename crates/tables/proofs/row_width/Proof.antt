@@ -3,7 +3,6 @@
 use mathlib.Core.Path.{sym}
 use borrow.Author.Needs.{needs}
 use Rattle.tables.proofs.Widths.{width-of, no-width}
-use Rattle.tables.specs.Layout.{rowWidth}
 use Rattle.tables.proofs.row_width.Statement.{statement}
 use Rattle.tables.proofs.row_width.Tie as tie
 

@@ -1,5 +1,5 @@
 -- `tables::table_count` meets its contract. Assumes nothing.
-use mathlib.Core.Path.{_≡_, refl}
+use mathlib.Core.Path.{_≡_}
 use Prim.Native.Nat.{ℕ}
 use Rattle.tables.specs.Layout.{tableCount}
 use Rattle.tables.proofs.Widths.{one-edition}

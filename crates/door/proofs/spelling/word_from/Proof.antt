@@ -1,5 +1,5 @@
 -- `spelling::word_from` meets its contract: each byte is what its callee ensures. Assumes nothing.
-use mathlib.Core.Path.{_≡_, _∙_}
+use mathlib.Core.Path.{_≡_}
 use Prim.Native.Nat.{ℕ, _+_, _*_}
 use lib.ListN.{getD}
 use mathlib.Core.List.{List}

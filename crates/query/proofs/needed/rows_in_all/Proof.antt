@@ -1,9 +1,9 @@
 -- `needed::rows_in_all` meets its contract. The loop's invariant: the sum is that of the tables passed. Assumes nothing.
 use native.Mathlib.Omega.{arith}
-use mathlib.Core.Path.{_≡_, refl, sym, ap, _∙_}
+use mathlib.Core.Path.{_≡_, refl}
 use mathlib.Core.List.{List}
 use borrow.Author.Needs.{needs}
-use Prim.Native.Nat.{ℕ, _+_, _-_, _*_, _≤_, _<_}
+use Prim.Native.Nat.{ℕ, _+_, _-_, _*_, _≤_}
 use Rattle.tables.specs.Layout.{tableCount}
 use Rattle.lists.specs.Every.{total}
 use Rattle.tables.specs.Image.{wordAt, countAt}

@@ -3,7 +3,7 @@
 use borrow.Author.Needs.{needs}
 use Prim.Native.Nat.{_-_}
 use native.Mathlib.Omega.{arith}
-use mathlib.Core.Path.{_≡_, refl, sym, _∙_}
+use mathlib.Core.Path.{_≡_, _∙_}
 use Rattle.tables.specs.Layout as layout
 use Rattle.query.proofs.EachOperation.{Going, going-first, going-next, going-stops, going-done}
 use Rattle.tables.specs.Image.{countAt}

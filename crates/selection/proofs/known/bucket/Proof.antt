@@ -1,11 +1,9 @@
 -- `known::bucket` meets its contract. Assumes nothing.
-use mathlib.Core.Path.{_≡_, refl}
-use mathlib.Core.Bool.{true, false}
+use mathlib.Core.Path.{_≡_}
 use native.Mathlib.Omega.{arith}
 use borrow.Author.Needs.{needs}
 use borrow.Author.Tests.{le-leb, lt-leb}
 use Prim.Native.Nat.{ℕ, _-_, _≤_, _<_, min}
-use lib.Dec.{leb}
 use Rattle.selection.specs.KnownLists.{bucket}
 use Rattle.selection.proofs.known.bucket.Statement.{statement}
 use Rattle.selection.proofs.known.bucket.Tie as tie

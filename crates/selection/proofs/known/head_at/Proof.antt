@@ -1,13 +1,12 @@
 -- `known::head_at` meets its contract. The loop's invariant: the key of the rows passed. Assumes nothing.
-use mathlib.Core.Path.{_≡_, refl, ap, _∙_}
+use mathlib.Core.Path.{_≡_, refl}
 use mathlib.Core.List.{List}
 use native.Mathlib.Omega.{arith}
-use Prim.Native.Nat.{ℕ, suc, _+_, _-_, _≤_, _<_}
+use Prim.Native.Nat.{ℕ, suc, _+_, _-_, _≤_}
 use lib.ListN.{getD}
 use Rattle.selection.specs.declared.arena.Arena.{Arena}
 use Rattle.selection.specs.declared.arena.List as places
 use Rattle.selection.specs.KnownLists.{bucket, keyWords, headAt}
-use Rattle.selection.proofs.KnownLaws.{key-most}
 use Rattle.selection.proofs.known.head_at.Statement.{statement}
 use Rattle.selection.proofs.known.head_at.Tie as tie
 

@@ -4,8 +4,7 @@ use native.Mathlib.Nat.{add-zero}
 use mathlib.Core.Bool.{Bool, true, false}
 use mathlib.Core.List.{List}
 use native.Mathlib.Omega.{arith}
-use borrow.Author.Needs.{needs}
-use Prim.Native.Nat.{ℕ, _+_, _-_, _*_, _≤_, _<_, suc}
+use Prim.Native.Nat.{ℕ, _+_, _-_, _*_, _<_, suc}
 use lib.ListN.{length, getD}
 use Rattle.lists.specs.Part.{Stores}
 use Rattle.merge_theory.specs.Lists.{isKnown}

@@ -2,10 +2,9 @@
 use borrow.Author.Needs.{needs}
 use borrow.Author.Tests.{eq-eqb, ne-eqb}
 use native.Mathlib.Omega.{arith}
-use mathlib.Core.Path.{_≡_, sym, ap, _∙_}
+use mathlib.Core.Path.{_≡_, sym, _∙_}
 use mathlib.Core.Bool.{Bool, true, false, false≢true}
 use mathlib.Core.List.{List}
-use denote.Ref.{now}
 use Prim.Native.Nat.{ℕ, _≤_}
 use Rattle.tables.specs.Layout.{NONE}
 use Rattle.tables.specs.Columns.{selectionTarget, isEmptySet}

@@ -1,5 +1,4 @@
 -- `columns::range` meets its contract: each word is what `cell` ensures. Assumes nothing.
-use mathlib.Core.Path.{_≡_}
 use native.Mathlib.Numerals.{add-one}
 use borrow.Author.Needs.{needs}
 use Rattle.tables.proofs.columns.range.Statement.{statement}

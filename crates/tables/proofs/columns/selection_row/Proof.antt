@@ -1,7 +1,7 @@
 -- `columns::selection_row` meets its contract: whole or word by word, the row is the same. Assumes nothing.
 use Prim.Native.Nat.{ℕ, _+_, _*_}
 use mathlib.Core.List.{List}
-use mathlib.Core.Path.{_≡_, refl, ap, _∙_}
+use mathlib.Core.Path.{_≡_, _∙_}
 use borrow.Author.Needs.{needs}
 use Rattle.tables.specs.Layout.{selections}
 use Rattle.tables.specs.Columns.{selectionFrom, selectionAt}

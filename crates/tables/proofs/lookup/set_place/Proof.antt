@@ -1,5 +1,4 @@
 -- `lookup::set_place` meets its contract: a law for each `return`. Assumes nothing.
-use mathlib.Core.Path.{_∙_, sym}
 use borrow.Author.Needs.{needs}
 use native.Mathlib.Omega.{arith}
 use Rattle.tables.proofs.Part.{bad-header, no-such-set, bad-range, found}

@@ -4,7 +4,7 @@ use mathlib.Core.Bool.{true}
 use borrow.Author.Needs.{needs}
 use native.Mathlib.Omega.{arith}
 use Prim.Native.Nat.{ℕ, _-_, _<_, _≤_}
-use mathlib.Core.Path.{_≡_, sym, ap, _∙_}
+use mathlib.Core.Path.{_≡_, sym, _∙_}
 use Rattle.tables.specs.RowFault.{rowRule}
 use Rattle.tables.proofs.RowLaws.{stops-at, stops-nowhere}
 use Rattle.tables.proofs.plain_rows.first_bad.Statement.{statement}

@@ -1,7 +1,7 @@
 -- `rows::check_lower` meets its contract. The loop's invariant: no row of a table passed breaks its rule. Assumes nothing.
 use Prim.Native.Nat.{_-_, _≤_}
 use borrow.Author.Needs.{needs}
-use mathlib.Core.Path.{_≡_, refl, sym}
+use mathlib.Core.Path.{_≡_, refl}
 use mathlib.Core.Option.{none}
 use native.Mathlib.Omega.{arith}
 use Rattle.lists.specs.First.{firstFault}

@@ -1,7 +1,6 @@
 -- `rows::claimed_selections` meets its contract. Assumes nothing.
 use borrow.Author.Needs.{needs}
 use mathlib.Core.Path.{ap, _∙_}
-use denote.Ref.{now}
 use Rattle.tables.specs.Rows.{setStart}
 use Rattle.tables.proofs.rows.claimed_selections.Statement.{statement}
 use Rattle.tables.proofs.rows.claimed_selections.Tie as tie
