@@ -32,3 +32,5 @@ pub mod Charges
 pub mod Distinct
 pub mod Equivalences
 pub mod Loops
+pub mod Order
+pub mod OrderLinks

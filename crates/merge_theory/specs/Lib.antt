@@ -21,3 +21,4 @@ pub mod TrueConflict
 pub mod Links
 pub mod Units
 pub mod Specimens
+pub mod Reordered
