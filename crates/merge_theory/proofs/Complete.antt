@@ -7,15 +7,17 @@ use lib.Dec.{T-not}
 use Rattle.merge_theory.specs.Lists.{_∈_, Every}
 use Rattle.merge_theory.specs.Document.{Document, isField, IsField, NoField, setOf, Sound, FieldAt}
 use Rattle.merge_theory.specs.Expand.{itself, FieldIn, field-of, expand}
-use Rattle.merge_theory.specs.Walk.{Pass, walk, check, shapePass, parentPass}
+use Rattle.merge_theory.specs.Steps.{stop}
+use Rattle.merge_theory.specs.Walk.{Pass, pass, passes, check, begin, shapePass, parentPass}
 use Rattle.merge_theory.specs.Rule.{SameResponse, one-parent, merged, ShapeFails, types-disagree, subshapes-fail, MergeFails, shapes-fail, names-differ, arguments-differ, subfields-fail, Reached, start, onward}
 use Rattle.merge_theory.specs.TrueConflict.{SameLevel}
 use Rattle.merge_theory.proofs.ListLaws.{head-in, only, decide}
-use Rattle.merge_theory.proofs.ExpandLaws.{expand-complete}
+use Rattle.merge_theory.proofs.ExpandLaws.{expand-complete, expand-at}
 use Rattle.merge_theory.proofs.Levels.{below-field, below-other, merged-left}
 use Rattle.merge_theory.proofs.Outcome.{Shallow, Meets, meets-after, meets-weaken}
 use Rattle.merge_theory.proofs.Passes.{PassLaws, Settles, shape-laws, parent-laws, shape-settles, parent-settles, silent-types, silent-same}
-use Rattle.merge_theory.proofs.Clean.{PairFails, clashing, below-fails, Clean, pass-clean}
+use Rattle.merge_theory.proofs.Gone.{Trace, Leaves, pass-done}
+use Rattle.merge_theory.proofs.Clean.{PairFails, clashing, below-fails, Quiet, quiet-clean}
 
 -- ---- both passes
 
@@ -45,21 +47,33 @@ module _ (D : Document) {At : ℕ → Type 0} (S : Sound D At) where
       up (inl (fails-in k l near h)) = inl (fails-in i j e (below-fails k l near h))
       up (inr (fails-in k l near h)) = inr (fails-in i j (e, o) (below-fails k l near h))
 
-  clean-holds : (P : Pass) (Near : ℕ → ℕ → Type 0) (L : PassLaws D P Near) (E : Settles (FieldAt D At) P) (sets : List ℕ) → Every At sets
-      → Clean D S P Near L E (expand D sets) → ¬ FailsIn D P Near sets
-  clean-holds P Near L E sets at clean (fails-in {a = a} {b = b} i j near bad) =
-      clean a b (expand-complete D S sets at i) (expand-complete D S sets at j) near bad
+  quiet-holds : (P : Pass) (Near : ℕ → ℕ → Type 0) (L : PassLaws D P Near) (E : Settles (FieldAt D At) P) (sets : List ℕ) → Every At sets
+      → Quiet D S P Near L E (expand D sets) → ¬ FailsIn D P Near sets
+  quiet-holds P Near L E sets at quiet (fails-in {a = a} {b = b} i j near bad) =
+      quiet-clean D S P Near L E (expand D sets) (expand-at D S sets at) quiet a b (expand-complete D S sets at i) (expand-complete D S sets at j) near bad
 
-  pub check-clean : (budget used s : ℕ) → At s → Meets (λ k u. ¬ MergeFails D (s ∷ [])) Shallow (check D budget used s)
-  unfolding check
+  -- where neither pass compares a pair that clashes, the operation's set does not fail
+  pub quiet-rule : (s : ℕ) → At s
+      → Quiet D S (shapePass D) (SameResponse D) (shape-laws D) (shape-settles D S) (expand D (s ∷ []))
+      → Quiet D S (parentPass D) (SameLevel D) (parent-laws D) (parent-settles D S) (expand D (s ∷ [])) → ¬ MergeFails D (s ∷ [])
+  quiet-rule s at shapes parents bad =
+      ⊎-elim (quiet-holds (shapePass D) (SameResponse D) (shape-laws D) (shape-settles D S) (s ∷ []) (only At at) shapes)
+      (quiet-holds (parentPass D) (SameLevel D) (parent-laws D) (parent-settles D S) (s ∷ []) (only At at) parents) (split bad)
+
+  -- a check stops at a conflict, so that it leaves none behind
+  abbrev NoTrace : Trace
+  NoTrace e entries = ⊥
+
+  stop-leaves : Leaves stop NoTrace
+  stop-leaves e z = tt
+
+  pub check-clean : (budget used s : ℕ) → At s → Meets (λ z. ¬ MergeFails D (s ∷ [])) Shallow (check D budget used s)
+  unfolding check passes
   check-clean budget used s at =
-      meets-after _ _ Shallow _ _
-      (pass-clean D S (shapePass D) (SameResponse D) (shape-laws D) (shape-settles D S) budget used (s ∷ []) (only At at))
-      (λ k u shapes. meets-weaken _ (λ k′ u′. ¬ MergeFails D (s ∷ [])) Shallow (walk D (parentPass D) budget (suc (D .limit)) (s ∷ []) [] u)
-      (λ k′ u′ parents bad.
-      ⊎-elim (clean-holds (shapePass D) (SameResponse D) (shape-laws D) (shape-settles D S) (s ∷ []) (only At at) shapes)
-      (clean-holds (parentPass D) (SameLevel D) (parent-laws D) (parent-settles D S) (s ∷ []) (only At at) parents) (split bad))
-      (pass-clean D S (parentPass D) (SameLevel D) (parent-laws D) (parent-settles D S) budget u (s ∷ []) (only At at)))
+      meets-after _ _ Shallow _ _ (pass-done D S (shapePass D) (SameResponse D) (shape-laws D) stop NoTrace stop-leaves s budget at (begin used))
+      (λ z shapes. meets-weaken _ (λ y. ¬ MergeFails D (s ∷ [])) Shallow (pass D stop budget (parentPass D) s z)
+      (λ y parents. quiet-rule s at (shapes .0) (parents .0))
+      (pass-done D S (parentPass D) (SameLevel D) (parent-laws D) stop NoTrace stop-leaves s budget at z))
 
 -- ---- every reached set
 

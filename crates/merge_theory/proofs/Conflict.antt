@@ -1,116 +1,66 @@
--- T1 in three steps: a conflict that the check names is the first clash of a part (`Named`); such a clash is a true conflict; a true
--- conflict breaks the rule. Assumes nothing of the document.
+-- T1: the pair that a check names is the first field of a part that is met and the first other that clashes with it. Such a pair, and
+-- every pair that a listing has an entry of, is a true conflict; and a true conflict breaks the rule. Assumes nothing.
 use mathlib.Core.Path.{_≡_, refl, subst}
-use mathlib.Core.Logic.{inl, inr, ⊎-elim}
-use mathlib.Core.Bool.{Bool, true, false}
+use mathlib.Core.Logic.{inl, inr, ⊎-map, ⊎-elim}
 use mathlib.Core.Option.{Option, none, some}
 use mathlib.Core.List.{List, [], _∷_}
-use Prim.Native.Nat.{ℕ, zero, suc, _+_}
-use lib.Dec.{leb}
-use Rattle.merge_theory.specs.Lists.{_∈_, there, isKnown}
+use Prim.Native.Nat.{ℕ, suc}
+use Rattle.merge_theory.specs.Lists.{_∈_, there}
 use Rattle.merge_theory.specs.Document.{Document, Cause, shape, name, arguments}
 use Rattle.merge_theory.specs.Expand.{FieldIn, expand}
-use Rattle.merge_theory.specs.Walk.{finished, Step, _then_, Pass, settle, against, compareFirst, chargeIf, charge, note, descend, walkParts, enter, meet, walk, check, shapePass, parentPass}
-use Rattle.merge_theory.specs.Named.{Met, top, below, FirstClash, now, later, Named, named, NamedInCheck}
+use Rattle.merge_theory.specs.Steps.{Entry, entry, State, after, _then_, stop, tell}
+use Rattle.merge_theory.specs.Walk.{Pass, against, compareFirst, fresh, pass, passes, check, begin, shapePass, parentPass}
+use Rattle.merge_theory.specs.Named.{Met, top, below, Compared, compared, ComparedInCheck, FirstClash, now, later, Named, named, NamedInCheck}
 use Rattle.merge_theory.specs.Rule.{SameResponse, ShapeFails, types-disagree, subshapes-fail, MergeFails, shapes-fail, names-differ, arguments-differ, subfields-fail}
 use Rattle.merge_theory.specs.TrueConflict.{SameLevel, Chains, first-level, next-level, TrueConflict}
 use Rattle.merge_theory.proofs.ListLaws.{head-in}
 use Rattle.merge_theory.proofs.ExpandLaws.{expand-sound}
 use Rattle.merge_theory.proofs.Levels.{from-below, merged-left, merged-right}
-use Rattle.merge_theory.proofs.Outcome.{Anyhow, Stops, Meets, meets-after, Told}
+use Rattle.merge_theory.proofs.Outcome.{Fact, Anyhow, Meets, Told}
 use Rattle.merge_theory.proofs.Passes.{PassLaws, shape-laws, parent-laws}
+use Rattle.merge_theory.proofs.Carried.{carried-walk}
+use Rattle.merge_theory.proofs.Stopping.{Stopping, StopsSo, stops-then, stops-carries}
 
--- ---- what the walk names
+-- ---- what the check names
 
--- of a conflict `Names` is to hold, of any other end nothing
-abbrev pub Naming : (Cause → ℕ → ℕ → Type 0) → Stops
-Naming Names = record { on-conflict = λ c a b used. Names c a b; on-out = λ used. Unit {0}; on-deep = Unit {0} }
+-- the check of s names conflicts of s
+pub data NamedEntry (D : Document) (s : ℕ) : Entry → Type 0 where
+  named-entry : {c : Cause} {a b : ℕ} → NamedInCheck D s c a b → NamedEntry D s (entry s c a b)
 
-module _ (Names : Cause → ℕ → ℕ → Type 0) where
-  abbrev NamesOnly : Step → Type 0
-  NamesOnly step = (known : List (List ℕ)) (used : ℕ) → Meets Anyhow (Naming Names) (step known used)
+abbrev pub NamesOnly : Document → ℕ → Entry → Fact
+NamesOnly D s e z = NamedEntry D s e
 
-  names-finished : NamesOnly finished
-  names-finished known used = tt
-
-  names-then : (first next : Step) → NamesOnly first → NamesOnly next → NamesOnly (first then next)
-  names-then first next h g known used = meets-after Anyhow Anyhow (Naming Names) (first known used) next (h known used) (λ k u t. g k u)
-
-  names-charge : (budget cost : ℕ) → NamesOnly (charge budget cost)
-  unfolding charge chargeIf
-  names-charge budget cost known used = by-test (leb (used + cost) budget)
+module _ (At : Entry → Fact) (s : ℕ) (clash : ℕ → ℕ → Option Cause) (a : ℕ) where
+  -- it stops at the first field that clashes
+  stops-against : (others : List ℕ) → ((c : Cause) (b : ℕ) → FirstClash clash a c b others → (z : State) → At (entry s c a b) z)
+      → StopsSo At (against stop s clash a others)
+  unfolding against tell after
+  stops-against [] h = λ z. tt
+  stops-against (b ∷ others) h = λ z. by-outcome (clash a b) (λ c e. h c b (now e)) (λ e. stops-against others (λ c d f. h c d (later e f))) z
     where
-      by-test : (b : Bool) → Meets Anyhow (Naming Names) (chargeIf b cost known used)
-      by-test true = tt
-      by-test false = tt
+      by-outcome : (o : Option Cause) → ((c : Cause) → o ≡ some c → (z : State) → At (entry s c a b) z)
+          → (o ≡ none → StopsSo At (against stop s clash a others)) → StopsSo At (tell stop s o a b then against stop s clash a others)
+      by-outcome none names go = go refl
+      by-outcome (some c) names go = λ z. names c refl z
 
-  names-settle : (o : Option Cause) (a b : ℕ) (next : Step) → ((c : Cause) → o ≡ some c → Names c a b) → (o ≡ none → NamesOnly next)
-      → NamesOnly (settle o a b next)
-  unfolding settle
-  names-settle none a b next told go known used = go refl known used
-  names-settle (some c) a b next told go known used = told c refl
+pass-names : (D : Document) (P : Pass) (s budget : ℕ) → ((c : Cause) (a b : ℕ) → Named D P s c a b → NamedInCheck D s c a b)
+    → StopsSo (NamesOnly D s) (pass D stop budget P s)
+unfolding pass compareFirst
+pass-names D P s budget may z =
+    carried-walk D P s _ _ _ (stops-carries (NamesOnly D s) D P s budget stop by-part) (suc (D .limit)) (s ∷ []) top (fresh z)
+  where
+    by-part : (sets part : List ℕ) → Met D P s sets → part ∈ P .parts (expand D sets) → StopsSo (NamesOnly D s) (compareFirst stop s (P .clash) part)
+    by-part sets [] met m = λ z. tt
+    by-part sets (a ∷ others) met m =
+        stops-against (NamesOnly D s) s (P .clash) a others (λ c b f z. named-entry (may c a b (named met m f)))
 
-  names-against : (clash : ℕ → ℕ → Option Cause) (a : ℕ) (others : List ℕ)
-      → ((c : Cause) (b : ℕ) → FirstClash clash a c b others → Names c a b) → NamesOnly (against clash a others)
-  unfolding against
-  names-against clash a [] told = names-finished
-  names-against clash a (b ∷ others) told =
-      names-settle (clash a b) _ _ _ (λ c e. told c b (now e))
-      (λ e. names-against clash a others (λ c d f. told c d (later e f)))
-
-  -- ---- one pass from s, of which every `Named` pair may be named
-
-  module _ (D : Document) (P : Pass) (s : ℕ) (told : (c : Cause) (a b : ℕ) → Named D P s c a b → Names c a b) where
-    names-compare : (sets part : List ℕ) → Met D P s sets → part ∈ P .parts (expand D sets) → NamesOnly (compareFirst (P .clash) part)
-    unfolding compareFirst
-    names-compare sets [] met m = names-finished
-    names-compare sets (a ∷ others) met m = names-against (P .clash) a others (λ c b f. told c a b (named met m f))
-
-    abbrev NamesWalk : (List ℕ → Step) → Type 0
-    NamesWalk walked = (sets : List ℕ) → Met D P s sets → NamesOnly (walked sets)
-
-    names-descend : (walked : List ℕ → Step) → NamesWalk walked → NamesWalk (descend walked)
-    unfolding descend
-    names-descend walked h [] met = names-finished
-    names-descend walked h (t ∷ sets) met = h (t ∷ sets) met
-
-    names-parts : (walked : List ℕ → Step) → NamesWalk walked → (sets : List ℕ) → Met D P s sets → (parts : List (List ℕ))
-        → ((part : List ℕ) → part ∈ parts → part ∈ P .parts (expand D sets)) → NamesOnly (walkParts D P walked parts)
-    unfolding walkParts
-    names-parts walked h sets met [] among = names-finished
-    names-parts walked h sets met (part ∷ parts) among =
-        names-then _ _ (names-compare sets part met (among part head-in))
-        (names-then _ _ (names-descend walked h _ (below met (among part head-in)))
-        (names-parts walked h sets met parts (λ p m. among p (there m))))
-
-    names-enter : (walked : List ℕ → Step) → NamesWalk walked → (sets : List ℕ) → Met D P s sets → (isOld : Bool)
-        → NamesOnly (enter D P walked (expand D sets) isOld)
-    unfolding enter note
-    names-enter walked h sets met true = names-finished
-    names-enter walked h sets met false =
-        names-then (note (expand D sets)) _ (λ known used. tt) (names-parts walked h sets met _ (λ part m. m))
-
-    names-meet : (budget : ℕ) (walked : List ℕ → Step) → NamesWalk walked → (sets : List ℕ) → Met D P s sets → (isOld : Bool)
-        → NamesOnly (meet D P budget walked (expand D sets) isOld)
-    unfolding meet
-    names-meet budget walked h sets met isOld = names-then _ _ (names-charge budget _) (names-enter walked h sets met isOld)
-
-    names-walk : (budget levels : ℕ) → NamesWalk (walk D P budget levels)
-    unfolding walk
-    names-walk budget zero sets met known used = tt
-    names-walk budget (suc levels) sets met known used =
-        names-meet budget (walk D P budget levels) (names-walk budget levels) sets met (isKnown (expand D sets) known) known used
-
--- ---- both passes
-
-pub check-names : (D : Document) (budget used s : ℕ) → Meets Anyhow (Naming (NamedInCheck D s)) (check D budget used s)
-unfolding check
+pub check-names : (D : Document) (budget used s : ℕ) → Meets Anyhow (Stopping (NamesOnly D s)) (check D budget used s)
+unfolding check passes
 check-names D budget used s =
-    meets-after Anyhow Anyhow (Naming (NamedInCheck D s)) _ _
-    (names-walk (NamedInCheck D s) D (shapePass D) s (λ c a b n. inl n) budget (suc (D .limit)) (s ∷ []) top [] used)
-    (λ known used t. names-walk (NamedInCheck D s) D (parentPass D) s (λ c a b n. inr n) budget (suc (D .limit)) (s ∷ []) top [] used)
+    stops-then (NamesOnly D s) (pass D stop budget (shapePass D) s) (pass D stop budget (parentPass D) s)
+    (pass-names D (shapePass D) s budget (λ c a b. inl)) (pass-names D (parentPass D) s budget (λ c a b. inr)) (begin used)
 
--- ---- what is named is a true conflict
+-- ---- what is compared and clashes is a true conflict
 
 clash-in : {clash : ℕ → ℕ → Option Cause} {a b : ℕ} {c : Cause} {others : List ℕ} → FirstClash clash a c b others
     → (b ∈ others) × (clash a b ≡ some c)
@@ -130,17 +80,23 @@ module _ (D : Document) (P : Pass) (Near : ℕ → ℕ → Type 0) (L : PassLaws
       let near′ : Near c d = L .part-near (expand D sets) part c d m k l in
       next-level (met-chains met (part-field sets part m k) (part-field sets part m l) near′) h g near
 
-  named-true : (c : Cause) (a b : ℕ) → Named D P s c a b → TrueConflict D s c a b
-  named-true c a b (named {sets = sets} {others = others} met m f) =
-      let (k, e) = clash-in f in
+  pub compared-true : (c : Cause) (a b : ℕ) → Compared D P s c a b → TrueConflict D s c a b
+  compared-true c a b (compared {sets = sets} {others = others} met m k e) =
       let near : Near a b = L .part-near (expand D sets) (a ∷ others) a b m head-in (there k) in
       let chains : Chains D Near s a b = met-chains met (part-field sets _ m head-in) (part-field sets _ m (there k)) near in
       subst (Told (λ d. TrueConflict D s d a b)) e (L .told s a b chains)
 
-pub either-true : (D : Document) (s : ℕ) (c : Cause) (a b : ℕ) → NamedInCheck D s c a b → TrueConflict D s c a b
+-- what is named was compared
+named-compared : {D : Document} {P : Pass} {s a b : ℕ} {c : Cause} → Named D P s c a b → Compared D P s c a b
+named-compared (named met m f) = let (k, e) = clash-in f in compared met m k e
+
+pub either-true : (D : Document) (s : ℕ) (c : Cause) (a b : ℕ) → ComparedInCheck D s c a b → TrueConflict D s c a b
 either-true D s c a b =
-    ⊎-elim (named-true D (shapePass D) (SameResponse D) (shape-laws D) s c a b)
-    (named-true D (parentPass D) (SameLevel D) (parent-laws D) s c a b)
+    ⊎-elim (compared-true D (shapePass D) (SameResponse D) (shape-laws D) s c a b)
+    (compared-true D (parentPass D) (SameLevel D) (parent-laws D) s c a b)
+
+pub either-compared : {D : Document} {s a b : ℕ} {c : Cause} → NamedInCheck D s c a b → ComparedInCheck D s c a b
+either-compared = ⊎-map named-compared named-compared
 
 -- ---- a true conflict breaks the rule
 

@@ -27,6 +27,15 @@ module _ (D : Document) where
   merge-any (arguments-differ≢ i j ne e o t) = arguments-differ i j e o t
   merge-any (subfields-fail≢ i j ne e o bad) = subfields-fail i j e o (merge-any bad)
 
+-- ---- more sets have more failures
+
+module _ (D : Document) where
+  pub merge-mono≢ : {sets more : List ℕ} → ((f : ℕ) → FieldIn D sets f → FieldIn D more f) → MergeFails≢ D sets → MergeFails≢ D more
+  merge-mono≢ sub (shapes-fail≢ i j ne e bad) = shapes-fail≢ (sub _ i) (sub _ j) ne e bad
+  merge-mono≢ sub (names-differ≢ i j ne e o t) = names-differ≢ (sub _ i) (sub _ j) ne e o t
+  merge-mono≢ sub (arguments-differ≢ i j ne e o t) = arguments-differ≢ (sub _ i) (sub _ j) ne e o t
+  merge-mono≢ sub (subfields-fail≢ i j ne e o bad) = subfields-fail≢ (sub _ i) (sub _ j) ne e o bad
+
 -- ---- a field with itself: its own set, which is reached
 
 -- equal or different

@@ -17,11 +17,11 @@ Together parts a b = (part : List ℕ) × (part ∈ parts) × (a ∈ part) × (b
 
 -- ---- fields with one key
 
-from-fieldsWith : (key : ℕ → ℕ) (fields : List ℕ) (k : ℕ) {f : ℕ} → f ∈ fieldsWith key fields k → (f ∈ fields) × (key f ≡ k)
+pub from-fieldsWith : (key : ℕ → ℕ) (fields : List ℕ) (k : ℕ) {f : ℕ} → f ∈ fieldsWith key fields k → (f ∈ fields) × (key f ≡ k)
 unfolding fieldsWith
 from-fieldsWith key fields k {f} m = let (i, t) = from-filter (λ g. eqb (key g) k) fields m in (i, eqb→eq (key f) k t)
 
-in-fieldsWith : (key : ℕ → ℕ) {fields : List ℕ} {k f : ℕ} → f ∈ fields → key f ≡ k → f ∈ fieldsWith key fields k
+pub in-fieldsWith : (key : ℕ → ℕ) {fields : List ℕ} {k f : ℕ} → f ∈ fields → key f ≡ k → f ∈ fieldsWith key fields k
 unfolding fieldsWith
 in-fieldsWith key {k = k} {f = f} m e = in-filter (λ g. eqb (key g) k) m (subst (λ x. T (eqb (key f) x)) e (eqb-refl (key f)))
 

@@ -25,7 +25,7 @@ module _ (D : Document) {At : ℕ → Type 0} (S : Sound D At) where
       omega arith
 
   -- what a field of merged sets leads to is below one of them
-  field-rank : {sets : List ℕ} {f : ℕ} (u : ℕ) → Every At sets → FieldIn D sets f → u ∈ setOf D f
+  pub field-rank : {sets : List ℕ} {f : ℕ} (u : ℕ) → Every At sets → FieldIn D sets f → u ∈ setOf D f
       → (s : ℕ) × (s ∈ sets) × (S .rank u < S .rank s)
   field-rank u all (field-of {s = s} {t = t} m w i is) j =
       let h₁ : S .rank u < S .rank t = S .falls (within-at D S (all s m) w) i j in

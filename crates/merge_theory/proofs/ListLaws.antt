@@ -15,11 +15,11 @@ decide true = inl tt
 decide false = inr tt
 
 -- one of two tests passes; both do
-or-cases : (b c : Bool) → T (b || c) → T b ⊎ T c
+pub or-cases : (b c : Bool) → T (b || c) → T b ⊎ T c
 or-cases true c t = inl tt
 or-cases false c t = inr t
 
-or-of : (b c : Bool) → T b ⊎ T c → T (b || c)
+pub or-of : (b c : Bool) → T b ⊎ T c → T (b || c)
 or-of true c h = tt
 or-of false c (inl t) = absurd t
 or-of false c (inr t) = t

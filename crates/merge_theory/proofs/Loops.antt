@@ -9,7 +9,8 @@ use lib.Dec.{eqb}
 use Rattle.merge_theory.specs.Lists.{flatMap, keep, filter, distinct, isIn, sameList, isKnown}
 use Rattle.merge_theory.specs.Document.{Document, Cause}
 use Rattle.merge_theory.specs.Groups.{keysOf}
-use Rattle.merge_theory.specs.Walk.{Result, finished, conflict, out, deep, Step, after, _then_, Pass, settle, against, compareFirst, descend, setsBelow, walkParts}
+use Rattle.merge_theory.specs.Steps.{State, Result, finished, conflict, out, deep, Step, after, _then_, Found, tell}
+use Rattle.merge_theory.specs.Walk.{Pass, against, compareFirst, descend, setsBelow, walkParts}
 
 -- ---- lists
 
@@ -74,60 +75,48 @@ isKnown-append l (k ∷ ks) more =
 
 pub after-assoc : (r : Result) (f g : Step) → after r (f then g) ≡ after (after r f) g
 unfolding after
-after-assoc (finished known used) f g = refl
-after-assoc (conflict c a b used) f g = refl
-after-assoc (out used) f g = refl
-after-assoc deep f g = refl
+after-assoc (finished z) f g = refl
+after-assoc (conflict e z) f g = refl
+after-assoc (out z) f g = refl
+after-assoc (deep z) f g = refl
 
-pub after-ext : (r : Result) (f g : Step) → ((known : List (List ℕ)) (used : ℕ) → f known used ≡ g known used) → after r f ≡ after r g
+pub after-ext : (r : Result) (f g : Step) → ((z : State) → f z ≡ g z) → after r f ≡ after r g
 unfolding after
-after-ext (finished known used) f g h = h known used
-after-ext (conflict c a b used) f g h = refl
-after-ext (out used) f g h = refl
-after-ext deep f g h = refl
-
-settle-after : (o : Option Cause) (a b : ℕ) (f g : Step) (known : List (List ℕ)) (used : ℕ)
-    → settle o a b (f then g) known used ≡ after (settle o a b f known used) g
-unfolding settle after
-settle-after none a b f g known used = refl
-settle-after (some c) a b f g known used = refl
-
-settle-ext : (o : Option Cause) (a b : ℕ) (f g : Step) → ((known : List (List ℕ)) (used : ℕ) → f known used ≡ g known used)
-    → (known : List (List ℕ)) (used : ℕ) → settle o a b f known used ≡ settle o a b g known used
-unfolding settle
-settle-ext none a b f g h known used = h known used
-settle-ext (some c) a b f g h known used = refl
+after-ext (finished z) f g h = h z
+after-ext (conflict e z) f g h = refl
+after-ext (out z) f g h = refl
+after-ext (deep z) f g h = refl
 
 -- the first field against some others, then against the rest
-pub against-append : (clash : ℕ → ℕ → Option Cause) (a : ℕ) (xs ys : List ℕ) (known : List (List ℕ)) (used : ℕ)
-    → against clash a (xs ++ ys) known used ≡ after (against clash a xs known used) (against clash a ys)
+pub against-append : (found : Found) (s : ℕ) (clash : ℕ → ℕ → Option Cause) (a : ℕ) (xs ys : List ℕ) (z : State)
+    → against found s clash a (xs ++ ys) z ≡ after (against found s clash a xs z) (against found s clash a ys)
 unfolding against after
-against-append clash a [] ys known used = refl
-against-append clash a (b ∷ xs) ys known used =
-    settle-ext (clash a b) a b (against clash a (xs ++ ys)) (against clash a xs then against clash a ys)
-    (against-append clash a xs ys) known used
-    ∙ settle-after (clash a b) a b (against clash a xs) (against clash a ys) known used
+against-append found s clash a [] ys z = refl
+against-append found s clash a (b ∷ xs) ys z =
+    after-ext (tell found s (clash a b) a b z) (against found s clash a (xs ++ ys)) (against found s clash a xs then against found s clash a ys)
+    (against-append found s clash a xs ys)
+    ∙ after-assoc (tell found s (clash a b) a b z) (against found s clash a xs) (against found s clash a ys)
 
 -- some parts, then the rest
-pub walkParts-append : (D : Document) (P : Pass) (below : List ℕ → Step) (ps qs : List (List ℕ)) (known : List (List ℕ)) (used : ℕ)
-    → walkParts D P below (ps ++ qs) known used ≡ after (walkParts D P below ps known used) (walkParts D P below qs)
+pub walkParts-append : (D : Document) (P : Pass) (found : Found) (s : ℕ) (below : List ℕ → Step) (ps qs : List (List ℕ)) (z : State)
+    → walkParts D P found s below (ps ++ qs) z ≡ after (walkParts D P found s below ps z) (walkParts D P found s below qs)
 unfolding walkParts after
-walkParts-append D P below [] qs known used = refl
-walkParts-append D P below (p ∷ ps) qs known used =
-    after-ext (compare known used) (lower then walkParts D P below (ps ++ qs)) ((lower then front) then rest)
-    (λ k u.
-    after-ext (lower k u) (walkParts D P below (ps ++ qs)) (front then rest) (walkParts-append D P below ps qs)
-    ∙ after-assoc (lower k u) front rest)
-    ∙ after-assoc (compare known used) (lower then front) rest
+walkParts-append D P found s below [] qs z = refl
+walkParts-append D P found s below (p ∷ ps) qs z =
+    after-ext (compare z) (lower then walkParts D P found s below (ps ++ qs)) ((lower then front) then rest)
+    (λ y.
+    after-ext (lower y) (walkParts D P found s below (ps ++ qs)) (front then rest) (walkParts-append D P found s below ps qs)
+    ∙ after-assoc (lower y) front rest)
+    ∙ after-assoc (compare z) (lower then front) rest
   where
     compare : Step
-    compare = compareFirst (P .clash) p
+    compare = compareFirst found s (P .clash) p
 
     lower : Step
     lower = descend below (setsBelow D p)
 
     front : Step
-    front = walkParts D P below ps
+    front = walkParts D P found s below ps
 
     rest : Step
-    rest = walkParts D P below qs
+    rest = walkParts D P found s below qs

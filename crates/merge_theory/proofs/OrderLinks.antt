@@ -5,7 +5,7 @@ use mathlib.Core.Logic.{_↔_}
 use mathlib.Core.List.{List, [], _∷_}
 use Prim.Native.Nat.{ℕ, zero, suc, _≤_, _<_}
 use native.Mathlib.Omega.{arith}
-use Rattle.merge_theory.specs.Document.{Document, setOf}
+use Rattle.merge_theory.specs.Document.{Document, setOf, FieldAt, field-at}
 use Rattle.merge_theory.specs.Links.{linked, most, links}
 use Rattle.merge_theory.specs.Lists.{_∈_, there}
 use Rattle.merge_theory.specs.Rule.{Reached, start, onward}
@@ -25,7 +25,7 @@ most-le f g like (x ∷ xs) ys h =
     omega arith
 
 module _ (D D′ : Document) {At : ℕ → Type 0} (closed : (s r t : ℕ) → At s → r ∈ D .rowsOf s → t ∈ setOf D r → At t) (E : Embeds D D′ At) where
-  reached-like : {s t : ℕ} → At s → Reached D s t → At t × Reached D′ (E .set s) (E .set t)
+  pub reached-like : {s t : ℕ} → At s → Reached D s t → At t × Reached D′ (E .set s) (E .set t)
   reached-like at start = (at, start)
   reached-like at (onward {t = t} {row = r} {u = u} q i j) =
       let (at′, q′) = reached-like at q in
@@ -43,7 +43,7 @@ module _ (D D′ : Document) {At : ℕ → Type 0} (closed : (s r t : ℕ) → A
 
 module _ (D D′ : Document) {At At′ : ℕ → Type 0} (R : Reordered D D′ At At′) where
   -- D′'s sets at hand lead to no others either
-  closed-back : (s r t : ℕ) → At′ s → r ∈ D′ .rowsOf s → t ∈ setOf D′ r → At′ t
+  pub closed-back : (s r t : ℕ) → At′ s → r ∈ D′ .rowsOf s → t ∈ setOf D′ r → At′ t
   closed-back s r t at i j =
       let (k, e) = was D D′ R at i in
       let (l, q) = was-link D D′ R at i j in
@@ -64,3 +64,40 @@ module _ (D D′ : Document) {At At′ : ℕ → Type 0} (R : Reordered D D′ A
     λ q. subst (λ x. Reached D x t) (R .set-round at) (subst (λ x. Reached D (R .setBack (R .set s)) x) (R .set-round at′)
         (reached-like D′ D closed-back (back D D′ R) (R .set-at at) q .1)),
   )
+
+-- of what a set reaches alone
+module _ (D D′ : Document) {At At′ : ℕ → Type 0} (R : Reordered D D′ At At′) {s : ℕ} (at : At s) where
+  pub still : {t : ℕ} → Reached D s t → At t
+  unfolding forth
+  still q = reached-like D D′ (λ s r t at i j. R .closed at i j) (forth D D′ R) at q .0
+
+  pub still-back : {t : ℕ} → Reached D′ (R .set s) t → At′ t
+  unfolding back
+  still-back q = reached-like D′ D (closed-back D D′ R) (back D D′ R) (R .set-at at) q .0
+
+  pub of-reach : {r : ℕ} → FieldAt D (Reached D s) r → FieldAt D At r
+  of-reach (field-at q i is) = field-at (still q) i is
+
+  unfoldable pub narrowed : Reordered D D′ (Reached D s) (Reached D′ (R .set s))
+  unfolding forth back
+  narrowed = record {
+    row = R .row;
+    rowBack = R .rowBack;
+    set = R .set;
+    setBack = R .setBack;
+    closed = λ q i j. onward q i j;
+    set-at = λ q. reached-like D D′ (λ s r t at i j. R .closed at i j) (forth D D′ R) at q .1;
+    setBack-at = λ {s = t} q. subst (λ x. Reached D x (R .setBack t)) (R .set-round at) (reached-like D′ D (closed-back D D′ R) (back D D′ R) (R .set-at at) q .1);
+    set-round = λ q. R .set-round (still q);
+    setBack-round = λ q. R .setBack-round (still-back q);
+    stands = λ q i. R .stands (still q) i;
+    stood = λ q i. R .stood (still q) i;
+    links = λ q i. R .links (still q) i;
+    kinds = λ q i. R .kinds (still q) i;
+    responses = λ f. R .responses (of-reach f);
+    parents = λ f. R .parents (of-reach f);
+    objects = λ f. R .objects (of-reach f);
+    types = λ f g. R .types (of-reach f) (of-reach g);
+    names = λ f g. R .names (of-reach f) (of-reach g);
+    arguments = λ f g. R .arguments (of-reach f) (of-reach g);
+  }

@@ -100,4 +100,4 @@ guarded-breaks rule = decides guarded guarded-sound 100 0 0 start (λ t. t) .1 r
 -- and the pair that is named is a true conflict
 guarded-conflicts : TrueConflict guarded 0 name 2 3
 unfolding computes
-guarded-conflicts = conflict-true guarded 100 0 0 name 2 3 12 refl
+guarded-conflicts = conflict-true guarded 100 0 0 name 2 3 _ refl

@@ -14,6 +14,15 @@ pub data Met (D : Document) (P : Pass) (s : ℕ) : List ℕ → Type 0 where
   top : Met D P s (s ∷ [])
   below : {sets part : List ℕ} → Met D P s sets → part ∈ P .parts (expand D sets) → Met D P s (setsBelow D part)
 
+-- the entry of a pair that a pass compares, and finds to conflict
+pub data Compared (D : Document) (P : Pass) (s : ℕ) (c : Cause) (a b : ℕ) : Type 0 where
+  compared : {sets others : List ℕ} → Met D P s sets → (a ∷ others) ∈ P .parts (expand D sets) → b ∈ others → P .clash a b ≡ some c
+      → Compared D P s c a b
+
+-- in one of the two passes
+abbrev pub ComparedInCheck : Document → ℕ → Cause → ℕ → ℕ → Type 0
+ComparedInCheck D s c a b = Compared D (shapePass D) s c a b ⊎ Compared D (parentPass D) s c a b
+
 -- b is the first of these fields that clashes with a
 pub data FirstClash (clash : ℕ → ℕ → Option Cause) (a : ℕ) (c : Cause) (b : ℕ) : List ℕ → Type 0 where
   now : {others : List ℕ} → clash a b ≡ some c → FirstClash clash a c b (b ∷ others)

@@ -6,9 +6,10 @@ use mathlib.Core.Option.{Option, none, some}
 use mathlib.Core.List.{List, [], _∷_, map}
 use Prim.Native.Nat.{ℕ}
 use lib.Dec.{eqb}
-use lib.ListN.{getD}
+use lib.ListN.{length, getD}
 use Rattle.merge_theory.specs.Document.{Kind, field, spread, inline, Document, numberOf}
-use Rattle.merge_theory.specs.Walk.{Result, finished, conflict, out, deep, check, computes}
+use Rattle.merge_theory.specs.Steps.{Entry, entry, Result, finished, conflict, out, deep}
+use Rattle.merge_theory.specs.Walk.{begin, check, listing, computes}
 
 -- ---- documents by tables
 
@@ -26,13 +27,13 @@ pub record Row : Type 0 where
 abbrev pub leaf : ℕ → ℕ → ℕ → Row
 leaf response own parent = record { kind = field; response = response; own = own; type = 0; args = 0; link = none; parent = parent }
 
-abbrev composite : ℕ → ℕ → Row
+abbrev pub composite : ℕ → ℕ → Row
 composite response set = record { kind = field; response = response; own = response; type = 1; args = 0; link = some set; parent = 0 }
 
-abbrev spreading : ℕ → Row
+abbrev pub spreading : ℕ → Row
 spreading set = record { kind = spread; response = 0; own = 0; type = 0; args = 0; link = some set; parent = 0 }
 
-abbrev inlining : ℕ → Row
+abbrev pub inlining : ℕ → Row
 inlining set = record { kind = inline; response = 0; own = 0; type = 0; args = 0; link = some set; parent = 0 }
 
 abbrev pub rowAt : List Row → ℕ → Row
@@ -62,7 +63,7 @@ document t = record {
 -- ---- the specimens. Set 0 is the operation's.
 
 -- {a}
-abbrev one-field : Tables
+abbrev pub one-field : Tables
 one-field = record { sets = (0 ∷ []) ∷ []; rows = leaf 1 1 0 ∷ []; objects = true ∷ [] }
 
 -- {a{...F} b{...F}}, F {c}: set 1 is the fragment's, 2 and 3 are those of a and b
@@ -74,7 +75,7 @@ shared-fragment = record {
 }
 
 -- n: name on Cat (type 1), n: nick on Dog (type 2), one leaf type
-abbrev cat-dog : Tables
+abbrev pub cat-dog : Tables
 cat-dog = record {
   sets = (0 ∷ 1 ∷ []) ∷ (2 ∷ []) ∷ (3 ∷ []) ∷ [];
   rows = inlining 1 ∷ inlining 2 ∷ leaf 7 8 1 ∷ leaf 7 9 2 ∷ [];
@@ -82,7 +83,7 @@ cat-dog = record {
 }
 
 -- and a third n: name on the interface Pet (type 0): the rows are 3 (Cat), 4 (Dog), 5 (Pet)
-abbrev cat-dog-pet : Tables
+abbrev pub cat-dog-pet : Tables
 cat-dog-pet = record {
   sets = (0 ∷ 1 ∷ 2 ∷ []) ∷ (3 ∷ []) ∷ (4 ∷ []) ∷ (5 ∷ []) ∷ [];
   rows = inlining 1 ∷ inlining 2 ∷ inlining 3 ∷ leaf 7 8 1 ∷ leaf 7 9 2 ∷ leaf 7 8 0 ∷ [];
@@ -98,16 +99,16 @@ inner-pair = record {
 }
 
 -- three fields of one name in one set, the third of another type; two of other arguments
-abbrev with-type : ℕ → Row
+abbrev pub with-type : ℕ → Row
 with-type t = record { kind = field; response = 1; own = 1; type = t; args = 0; link = none; parent = 0 }
 
-abbrev with-arguments : ℕ → Row
+abbrev pub with-arguments : ℕ → Row
 with-arguments x = record { kind = field; response = 1; own = 1; type = 0; args = x; link = none; parent = 0 }
 
-abbrev two-types : Tables
+abbrev pub two-types : Tables
 two-types = record { sets = (0 ∷ 1 ∷ 2 ∷ []) ∷ []; rows = with-type 3 ∷ with-type 3 ∷ with-type 4 ∷ []; objects = true ∷ [] }
 
-abbrev two-arguments : Tables
+abbrev pub two-arguments : Tables
 two-arguments = record { sets = (0 ∷ 1 ∷ []) ∷ []; rows = with-arguments 3 ∷ with-arguments 4 ∷ []; objects = true ∷ [] }
 
 -- {...F ...F}, F {c}: the fragment is queued once, so that its list is of one field
@@ -183,11 +184,11 @@ table =
     ∷ specimen shape-first 100 (14 ∷ 2 ∷ 3 ∷ 5 ∷ [])
     ∷ []
 
-abbrev shown : Result → List ℕ
-shown (finished known used) = 0 ∷ 0 ∷ 0 ∷ used ∷ []
-shown (conflict c a b used) = numberOf c ∷ a ∷ b ∷ used ∷ []
-shown (out used) = 17 ∷ 0 ∷ 0 ∷ used ∷ []
-shown deep = []
+abbrev pub shown : Result → List ℕ
+shown (finished z) = 0 ∷ 0 ∷ 0 ∷ z .used ∷ []
+shown (conflict (entry s c a b) z) = numberOf c ∷ a ∷ b ∷ z .used ∷ []
+shown (out z) = 17 ∷ 0 ∷ 0 ∷ z .used ∷ []
+shown (deep z) = []
 
 abbrev run : Specimen → List ℕ
 run (specimen tables budget reply) = shown (check (document tables) budget 0 0)
@@ -198,3 +199,60 @@ expected (specimen tables budget reply) = reply
 replies : map run table ≡ map expected table
 unfolding computes
 replies = refl
+
+-- ---- listings (02, b)
+
+-- three fields of one name with three lists of arguments
+abbrev three-arguments : Tables
+three-arguments = record {
+  sets = (0 ∷ 1 ∷ 2 ∷ []) ∷ [];
+  rows = with-arguments 3 ∷ with-arguments 4 ∷ with-arguments 5 ∷ [];
+  objects = true ∷ [];
+}
+
+-- a on Cat with y, a on Dog with z, a on the interface Pet with x: p and x: q. The two x meet in the subgroup of Cat and in that of Dog,
+-- in two lists: one entry.
+abbrev a-under : ℕ → ℕ → Row
+a-under parent set = record { kind = field; response = 1; own = 1; type = 1; args = 0; link = some set; parent = parent }
+
+abbrev met-twice : Tables
+met-twice = record {
+  sets = (0 ∷ 1 ∷ 2 ∷ []) ∷ (3 ∷ []) ∷ (4 ∷ []) ∷ (5 ∷ []) ∷ (6 ∷ []) ∷ (7 ∷ []) ∷ (8 ∷ 9 ∷ []) ∷ [];
+  rows =
+      inlining 1 ∷ inlining 2 ∷ inlining 3 ∷ a-under 1 4 ∷ a-under 2 5 ∷ a-under 0 6
+      ∷ leaf 2 2 3 ∷ leaf 3 3 3 ∷ leaf 4 5 3 ∷ leaf 4 6 3 ∷ [];
+  objects = false ∷ true ∷ true ∷ true ∷ [];
+}
+
+abbrev numbers : Entry → List ℕ
+numbers (entry s c a b) = numberOf c ∷ s ∷ a ∷ b ∷ []
+
+-- kind, number of entries, used; then the entries
+abbrev allShown : Result → List (List ℕ)
+allShown (finished z) = (0 ∷ length (z .entries) ∷ z .used ∷ []) ∷ map numbers (z .entries)
+allShown (conflict e z) = (19 ∷ length (z .entries) ∷ z .used ∷ []) ∷ map numbers (z .entries)
+allShown (out z) = (17 ∷ length (z .entries) ∷ z .used ∷ []) ∷ map numbers (z .entries)
+allShown (deep z) = []
+
+-- a document, the room, the budget, how often operation 0 is listed, and the listing's numbers
+data ListingSpecimen : Type 0 where
+  listed : Tables → (room budget : ℕ) → (operations : List ℕ) → List (List ℕ) → ListingSpecimen
+
+abbrev listings : List ListingSpecimen
+listings =
+    listed one-field 0 4 (0 ∷ []) ((0 ∷ 0 ∷ 4 ∷ []) ∷ [])
+    ∷ listed three-arguments 2 100 (0 ∷ []) ((0 ∷ 2 ∷ 8 ∷ []) ∷ (16 ∷ 0 ∷ 0 ∷ 1 ∷ []) ∷ (16 ∷ 0 ∷ 0 ∷ 2 ∷ []) ∷ [])
+    ∷ listed three-arguments 1 100 (0 ∷ []) ((19 ∷ 1 ∷ 8 ∷ []) ∷ (16 ∷ 0 ∷ 0 ∷ 1 ∷ []) ∷ [])
+    ∷ listed three-arguments 9 15 (0 ∷ 0 ∷ []) ((17 ∷ 2 ∷ 12 ∷ []) ∷ (16 ∷ 0 ∷ 0 ∷ 1 ∷ []) ∷ (16 ∷ 0 ∷ 0 ∷ 2 ∷ []) ∷ [])
+    ∷ listed met-twice 1 100 (0 ∷ []) ((0 ∷ 1 ∷ 21 ∷ []) ∷ (15 ∷ 0 ∷ 8 ∷ 9 ∷ []) ∷ [])
+    ∷ []
+
+abbrev runListing : ListingSpecimen → List (List ℕ)
+runListing (listed tables room budget operations numbers) = allShown (listing (document tables) room budget operations (begin 0))
+
+abbrev expectedListing : ListingSpecimen → List (List ℕ)
+expectedListing (listed tables room budget operations numbers) = numbers
+
+listed-so : map runListing listings ≡ map expectedListing listings
+unfolding computes
+listed-so = refl

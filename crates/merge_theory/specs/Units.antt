@@ -3,14 +3,15 @@ use mathlib.Core.List.{List, [], _∷_}
 use Prim.Native.Nat.{ℕ, suc, _+_, _≤_}
 use lib.ListN.{length}
 use Rattle.merge_theory.specs.Document.{Document}
-use Rattle.merge_theory.specs.Walk.{Result, finished, conflict, out, deep, Pass, setsBelow}
+use Rattle.merge_theory.specs.Steps.{Result, finished, conflict, out, deep}
+use Rattle.merge_theory.specs.Walk.{Pass, setsBelow}
 
 -- the units charged stay within the budget, however the walk ended
 abbrev pub WithinBudget : ℕ → Result → Type 0
-WithinBudget budget (finished known used) = used ≤ budget
-WithinBudget budget (conflict c a b used) = used ≤ budget
-WithinBudget budget (out used) = used ≤ budget
-WithinBudget budget deep = Unit {0}
+WithinBudget budget (finished z) = z .used ≤ budget
+WithinBudget budget (conflict e z) = z .used ≤ budget
+WithinBudget budget (out z) = z .used ≤ budget
+WithinBudget budget (deep z) = z .used ≤ budget
 
 -- the words that known lists take in a store: each its length and one more
 unfoldable pub weight : List (List ℕ) → ℕ
