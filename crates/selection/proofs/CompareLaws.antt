@@ -7,7 +7,8 @@ use Prim.Native.Nat.{ℕ, _+_, _≤_, _<_}
 use native.Mathlib.Omega.{arith}
 use Rattle.merge_theory.specs.Lists.{filter}
 use Rattle.merge_theory.specs.Document.{Cause}
-use Rattle.merge_theory.specs.Walk.{Step, after, settle, against, compareFirst}
+use Rattle.merge_theory.specs.Steps.{State, Step, after, _then_, stop, tell}
+use Rattle.merge_theory.specs.Walk.{against, compareFirst}
 use Rattle.merge_theory.proofs.Loops.{against-append}
 use Rattle.selection.specs.declared.arena.Arena.{Arena}
 use Rattle.selection.specs.declared.arena.Walk as states
@@ -28,24 +29,24 @@ no-clash : (o : Option Cause) → kindOfClash o ≡ 0 → o ≡ none
 no-clash none e = refl
 no-clash (some c) e = absurd (some-kind c e)
 
-settled : (s : List ℕ) (arena : Arena) (z : states.Walk) (kind a b : ℕ) (o : Option Cause) (next : Step) → kind ≡ kindOfClash o → (kind ≡ 0 → ⊥)
-    → (ls : List (List ℕ)) (used : ℕ) → Holds s arena (z .reply .operation) z ls used → Tells s arena (z .reply .operation) (conflicted kind a b z) (settle o a b next ls used)
-unfolding settle
-settled s arena z kind a b none next k stop ls used h = absurd (stop k)
-settled s arena z kind a b (some c) next k stop ls used h = rw (k, ap (λ r. r .used) (h .reply))
+told : (s : List ℕ) (arena : Arena) (z : states.Walk) (kind a b : ℕ) (o : Option Cause) (next : Step) → kind ≡ kindOfClash o → (kind ≡ 0 → ⊥)
+    → (y : State) → Holds s arena (z .reply .operation) z y → Tells s arena (z .reply .operation) (conflicted kind a b z) (after (tell stop (z .reply .operation) o a b y) next)
+unfolding tell after
+told s arena z kind a b none next k some-kind y h = absurd (some-kind k)
+told s arena z kind a b (some c) next k some-kind y h = rw (k, ap (λ r. r .used) (h .reply))
 
-nothing-left : (s : List ℕ) (arena : Arena) (z : states.Walk) (clash : ℕ → ℕ → Option Cause) (a : ℕ) (ls : List (List ℕ)) (used : ℕ) → Holds s arena (z .reply .operation) z ls used
-    → Tells s arena (z .reply .operation) z (against clash a [] ls used)
+nothing-left : (s : List ℕ) (arena : Arena) (z : states.Walk) (clash : ℕ → ℕ → Option Cause) (a : ℕ) (y : State) → Holds s arena (z .reply .operation) z y
+    → Tells s arena (z .reply .operation) z (against stop (z .reply .operation) clash a [] y)
 unfolding against
-nothing-left s arena z clash a ls used h = h
+nothing-left s arena z clash a y h = h
 
 -- the fields from `from` on have been compared up to a place: those from `at` on are left, and the next of them stands there
 pub record Upto (image s : List ℕ) (arena : Arena) (g : Segment) (isShape : Bool) (a from place : ℕ) (x : places.List) (l : List ℕ) : Type 0 where
   pub at : ℕ
   pub low : x .start ≤ at
   pub found : Found (member (document image) g) x l at place (rowIn s (arena .store) place)
-  pub same : (ls : List (List ℕ)) (used : ℕ) → against (passOf image isShape .clash) a (filter (member (document image) g) (onward x l from)) ls used
-      ≡ against (passOf image isShape .clash) a (filter (member (document image) g) (onward x l at)) ls used
+  pub same : (op : ℕ) (y : State) → against stop op (passOf image isShape .clash) a (filter (member (document image) g) (onward x l from)) y
+      ≡ against stop op (passOf image isShape .clash) a (filter (member (document image) g) (onward x l at)) y
 
 pub record Comparing (image s : List ℕ) (arena : Arena) (g : Segment) (isShape : Bool) (a from end place : ℕ) : Type 0 where
   pub upto : (x : places.List) (l : List ℕ) → x .end ≡ end → Grounded (document image) image s (arena .store) x l → Follows image s arena g x → x .start ≤ from
@@ -54,23 +55,23 @@ pub record Comparing (image s : List ℕ) (arena : Arena) (g : Segment) (isShape
 module _ {image s : List ℕ} {arena : Arena} {g : Segment} {isShape : Bool} {a from end : ℕ} where
   pub comparing-first : Comparing image s arena g isShape a from end from
   comparing-first = record {
-    upto = λ x l is G F low begins. record { at = from; low = low; found = found-here (G .list) (member (document image) g) from low begins; same = λ ls used. refl };
+    upto = λ x l is G F low begins. record { at = from; low = low; found = found-here (G .list) (member (document image) g) from low begins; same = λ op y. refl };
   }
 
   module _ {place b : ℕ} (c : Comparing image s arena g isShape a from end place) (less : place < end) (row : b ≡ rowIn s (arena .store) place) where
     -- the field at the place is met next
     turn : (x : places.List) (l : List ℕ) (is : x .end ≡ end) (G : Grounded (document image) image s (arena .store) x l) (F : Follows image s arena g x) (low : x .start ≤ from)
-        (begins : from < x .end → member (document image) g (rowIn s (arena .store) from) ≡ true) (ls : List (List ℕ)) (used : ℕ)
-        → against (passOf image isShape .clash) a (filter (member (document image) g) (onward x l from)) ls used
-        ≡ settle (passOf image isShape .clash a b) a b (against (passOf image isShape .clash) a (filter (member (document image) g) (onward x l (place + 1)))) ls used
+        (begins : from < x .end → member (document image) g (rowIn s (arena .store) from) ≡ true) (op : ℕ) (y : State)
+        → against stop op (passOf image isShape .clash) a (filter (member (document image) g) (onward x l from)) y
+        ≡ after (tell stop op (passOf image isShape .clash a b) a b y) (against stop op (passOf image isShape .clash) a (filter (member (document image) g) (onward x l (place + 1))))
     unfolding against
-    turn x l is G F low begins ls used =
+    turn x l is G F low begins op y =
         let u = c .upto x l is G F low begins in
-        u .same ls used ∙ rw (u .found .here (omega arith), row)
+        u .same op y ∙ rw (u .found .here (omega arith), row)
 
     pub comparing-next : kindOfClash (passOf image isShape .clash a b) ≡ 0 → {next : ℕ} → next ≡ followed s arena (g .kind) place end
         → Comparing image s arena g isShape a from end next
-    unfolding settle
+    unfolding tell after
     comparing-next quiet {next} e = record {
       upto = λ x l is G F low begins.
           let u = c .upto x l is G F low begins in
@@ -83,7 +84,7 @@ module _ {image s : List ℕ} {arena : Arena} {g : Segment} {isShape : Bool} {a 
             at = place + 1;
             low = ahead;
             found = member-found G g (place + 1) ahead found-next;
-            same = λ ls used. turn x l is G F low begins ls used ∙ rw (no-clash (passOf image isShape .clash a b) quiet);
+            same = λ op y. turn x l is G F low begins op y ∙ rw (no-clash (passOf image isShape .clash a b) quiet);
           };
     }
 
@@ -93,7 +94,7 @@ module _ {image s : List ℕ} {arena : Arena} {g : Segment} {isShape : Bool} {a 
       same = λ e. absurd (stop e);
       known = refl;
       operation = refl;
-      tells = λ l G F low begins ls used h. rw (turn x l is G F low begins ls used) (settled s arena z kind a b (passOf image isShape .clash a b) _ k stop ls used h);
+      tells = λ l G F low begins y h. rw (turn x l is G F low begins (z .reply .operation) y) (told s arena z kind a b (passOf image isShape .clash a b) _ k stop y h);
     }
 
   pub comparing-done : {place : ℕ} → Comparing image s arena g isShape a from end place → end ≤ place → (z : states.Walk) (x : places.List) → x .end ≡ end → ComparesSegment image s arena z x g isShape a from z
@@ -101,7 +102,7 @@ module _ {image s : List ℕ} {arena : Arena} {g : Segment} {isShape : Bool} {a 
     same = λ _. refl;
     known = refl;
     operation = refl;
-    tells = λ l G F low begins ls used h. let u = c .upto x l is G F low begins in rw (u .same ls used, u .found .over (omega arith)) (nothing-left s arena z (passOf image isShape .clash) a ls used h);
+    tells = λ l G F low begins y h. let u = c .upto x l is G F low begins in rw (u .same (z .reply .operation) y, u .found .over (omega arith)) (nothing-left s arena z (passOf image isShape .clash) a y h);
   }
 
 -- ---- a part: the front segment behind its first field, then the back segment
@@ -143,28 +144,28 @@ module _ {image s : List ℕ} {arena : Arena} {z z₁ : states.Walk} {part : Par
     low-second : part .list .start ≤ second
     low-second = omega (arith, p .from, found-second .ahead)
 
-    front-tells : (ls : List (List ℕ)) (used : ℕ) → Holds s arena (z .reply .operation) z ls used
-        → Tells s arena (z .reply .operation) z₁ (against (passOf image isShape .clash) a (filter (member (document image) (part .front)) (onward (part .list) l (part .first + 1))) ls used)
-    front-tells ls used h = rw (found-second .same) (front .tells l G front-follows low-second (found-second .passes) ls used h)
+    front-tells : (y : State) → Holds s arena (z .reply .operation) z y
+        → Tells s arena (z .reply .operation) z₁ (against stop (z .reply .operation) (passOf image isShape .clash) a (filter (member (document image) (part .front)) (onward (part .list) l (part .first + 1))) y)
+    front-tells y h = rw (found-second .same) (front .tells l G front-follows low-second (found-second .passes) y h)
 
   -- the two segments in order, from the first field on
-  in-order : (l rows : List ℕ) → Grounded (document image) image s (arena .store) (part .list) l → PartAt (document image) isShape s (arena .store) l part rows → (ls : List (List ℕ)) (used : ℕ)
-      → compareFirst (passOf image isShape .clash) rows ls used
-      ≡ after (against (passOf image isShape .clash) a (filter (member (document image) (part .front)) (onward (part .list) l (part .first + 1))) ls used)
-      (against (passOf image isShape .clash) a (filter (member (document image) (part .back)) (onward (part .list) l (part .next))))
+  in-order : (l rows : List ℕ) → Grounded (document image) image s (arena .store) (part .list) l → PartAt (document image) isShape s (arena .store) l part rows → (y : State)
+      → compareFirst stop (z .reply .operation) (passOf image isShape .clash) rows y
+      ≡ after (against stop (z .reply .operation) (passOf image isShape .clash) a (filter (member (document image) (part .front)) (onward (part .list) l (part .first + 1))) y)
+      (against stop (z .reply .operation) (passOf image isShape .clash) a (filter (member (document image) (part .back)) (onward (part .list) l (part .next))))
   unfolding compareFirst
-  in-order l rows G p ls used =
+  in-order l rows G p y =
       rw (part-head G p, ← row)
-      (against-append (passOf image isShape .clash) a (filter (member (document image) (part .front)) (onward (part .list) l (part .first + 1)))
-      (filter (member (document image) (part .back)) (onward (part .list) l (part .next))) ls used)
+      (against-append stop (z .reply .operation) (passOf image isShape .clash) a (filter (member (document image) (part .front)) (onward (part .list) l (part .first + 1)))
+      (filter (member (document image) (part .back)) (onward (part .list) l (part .next))) y)
 
   pub part-clash : (z₁ .reply .kind ≡ 0 → ⊥) → ComparesPart image s arena z part isShape z₁
   part-clash stop = record {
     same = λ e. absurd (stop e);
     known = front .known;
     operation = front .operation;
-    tells = λ l rows G t p ls used h.
-        rw (in-order l rows G p ls used) (tells-stop s arena (z .reply .operation) z₁ _ _ (front-tells l rows G t p ls used h) stop);
+    tells = λ l rows G t p y h.
+        rw (in-order l rows G p y) (tells-stop s arena (z .reply .operation) z₁ _ _ (front-tells l rows G t p y h) stop);
   }
 
   pub part-compared : z₁ .reply .kind ≡ 0 → {z₂ : states.Walk} → ComparesSegment image s arena z₁ (part .list) (part .back) isShape a (part .next) z₂ → ComparesPart image s arena z part isShape z₂
@@ -175,8 +176,8 @@ module _ {image s : List ℕ} {arena : Arena} {z z₁ : states.Walk} {part : Par
         same = back′ .same;
         known = back′ .known;
         operation = back′ .operation;
-        tells = λ l rows G t p ls used h.
-            rw (in-order l rows G p ls used)
-            (tells-go s s arena (z .reply .operation) z z₂ _ _ (rw is at (front-tells l rows G t p ls used h)) (rw is at go)
-            (λ ls′ used′ h′. back′ .tells l G (back-follows l rows G t p) (p .behind) (p .starts) ls′ used′ h′));
+        tells = λ l rows G t p y h.
+            rw (in-order l rows G p y)
+            (tells-go s s arena (z .reply .operation) z z₂ _ _ (rw is at (front-tells l rows G t p y h)) (rw is at go)
+            (λ y′ h′. back′ .tells l G (back-follows l rows G t p) (p .behind) (p .starts) y′ h′));
       }

@@ -5,6 +5,7 @@ use mathlib.Core.List.{List, [], _∷_, _++_}
 use Prim.Native.Nat.{ℕ, suc, _+_, _≤_}
 use native.Mathlib.Omega.{arith}
 use lib.ListN.{length}
+use Rattle.merge_theory.specs.Steps.{State}
 use Rattle.merge_theory.specs.Walk.{Pass, walk}
 use Rattle.selection.specs.declared.arena.Arena.{Arena}
 use Rattle.selection.specs.declared.arena.Walk as states
@@ -13,7 +14,7 @@ use Rattle.selection.specs.declared.groups.Part.{Part}
 use Rattle.selection.specs.declared.walk.Met.{Met}
 use Rattle.selection.specs.Standing.{Stands}
 use Rattle.selection.specs.Grouping.{PartAt}
-use Rattle.selection.specs.Refining.{document, passOf, Ample, Site, Rows, Refines, walkList, onePart, MeetsPart, WalksList}
+use Rattle.selection.specs.Refining.{paidFor, document, passOf, Ample, Site, Rows, Refines, walkList, onePart, MeetsPart, WalksList}
 use Rattle.selection.proofs.StandLaws.{stands-kept}
 use Rattle.selection.proofs.RefineLaws.{kept-trans, kept-none, by}
 use Rattle.selection.proofs.PassLaws.{walkRest, Progress, progress-turn, progress-stop, progress-end, progress-first}
@@ -61,7 +62,7 @@ module _ {image : List ℕ} {arena : Arena} {work : ℕ} {s s₁ : List ℕ} {z 
         let e = met .meets l rows site stands ordered listed p fields .entered deeper in
         let r = walks (e .list) (e .site) (e .stands) (e .ordered) (e .stored) (e .rows) in
         record {
-          tells = λ ls used h. rw (e .same levels ls used h) (r .tells (ls ++ e .list ∷ []) (used + suc (length (e .list))) (e .goes ls used h));
+          tells = λ y h. e .same levels y h s′ z′ (r .tells (paidFor (e .list) y) (e .goes y h));
           site = r .site;
           kept = kept-trans (e .kept) (r .kept);
         };
@@ -78,7 +79,7 @@ stepped-as e f r = rw (e, f) r
 whole-list : (image : List ℕ) (arena : Arena) (work op : ℕ) (P : Pass) (level levels : ℕ) (l : List ℕ) {s s′ : List ℕ} {z z′ : states.Walk} → level ≡ suc levels
     → Refines image arena work op (walkRest image arena work op P levels (P .parts l)) s s′ z z′ → Refines image arena work op (walkList image arena work op P level l) s s′ z z′
 unfolding walkList
-whole-list image arena work op P level levels l is r = rw is (by (walkList image arena work op P (suc levels) l) (λ ls used h. refl) r)
+whole-list image arena work op P level levels l is r = rw is (by (walkList image arena work op P (suc levels) l) (λ y h. refl) r)
 
 -- no level is left
 pub no-level : (image : List ℕ) (arena : Arena) (work : ℕ) (s : List ℕ) (z : states.Walk) (x : places.List) (isShape : Bool) (level : ℕ) → level ≡ 0 → Ample work 0 z
@@ -88,7 +89,7 @@ no-level image arena work s z x isShape level is ample = rw is (record {
   long = refl;
   operation = refl;
   ample = λ _. ample;
-  walks = λ l site stands ordered stored listed. record { tells = λ ls used h. tt; site = λ _. site; kept = kept-none s z z (omega arith) };
+  walks = λ l site stands ordered stored listed. record { tells = λ y h. tt; site = λ _. site; kept = kept-none s z z (omega arith) };
 })
 
 -- the loop: what is left of a list's parts, said by `Left`

@@ -10,7 +10,8 @@ use lib.ListN.{length, getD}
 use borrow.Author.Tests.{leb-true}
 use Rattle.merge_theory.specs.Lists.{flatMap}
 use Rattle.merge_theory.specs.Expand.{expand, fieldsOf}
-use Rattle.merge_theory.specs.Walk.{Pass, walk}
+use Rattle.merge_theory.specs.Steps.{State, stop}
+use Rattle.merge_theory.specs.Walk.{Pass, walkParts, walk}
 use Rattle.merge_theory.proofs.Theorems.{expand-queue}
 use Rattle.merge_theory.proofs.ExpandLaws.{expand-at}
 use Rattle.tables.specs.Layout.{fragments, selections}
@@ -25,7 +26,7 @@ use Rattle.selection.specs.KnownLists.{AtHand, headAt}
 use Rattle.selection.specs.Regions.{Places}
 use Rattle.selection.specs.Standing.{LinkFrame, LinkableBoth, Stood}
 use Rattle.selection.specs.Places.{rowIn}
-use Rattle.selection.specs.Refining.{document, passOf, Holds, Tells, charged, lengthOf, MeetsList, Ample, Begun, Site, Rows, Kept, Refines, walkList, Entered, Meets, Queued, MeetsSets}
+use Rattle.selection.specs.Refining.{paidFor, document, passOf, Holds, Tells, charged, lengthOf, MeetsList, Ample, Begun, Site, Rows, Kept, Refines, walkList, Entered, Meets, Queued, MeetsSets}
 use Rattle.selection.proofs.ParentsLaws.{few-rows}
 use Rattle.selection.proofs.StandLaws.{classed-kept, heads-low, in-front, row-in}
 use Rattle.selection.proofs.ExpandedLaws.{listed-expand, stores-same}
@@ -188,8 +189,8 @@ module _ {image : List ℕ} {arena : Arena} {work : ℕ} {s s₁ s₂ : List ℕ
   list₁ : AtHand s₁ (arena .store) at-hand l
   list₁ = record { rows = listed-expand listed (site .sound) (queued .hand) }
 
-  holds₁ : (ls : List (List ℕ)) (used : ℕ) → Holds s arena (z .reply .operation) z ls used → Holds s₁ arena (z .reply .operation) z₁ ls used
-  holds₁ ls used h = record {
+  holds₁ : (y : State) → Holds s arena (z .reply .operation) z y → Holds s₁ arena (z .reply .operation) z₁ y
+  holds₁ y h = record {
     known = known-kept (z .known) (heads-low regions) (known-told (h .known)) (listed .frame .long) (λ k ge less. listed .frame .links k (omega (arith, regions .heads)) (omega (arith, spread-known)))
         (λ k ge less. listed .frame .known k ge (omega (arith, begun .listed))) (h .known);
     reply = h .reply;
@@ -226,18 +227,20 @@ module _ {image : List ℕ} {arena : Arena} {work : ℕ} {s s₁ s₂ : List ℕ
     within = left .within at-0;
   }
 
-  flat-tells : m .deeper ≡ false → (P : Pass) (levels : ℕ) (ls : List (List ℕ)) (used : ℕ) → Holds s arena (z .reply .operation) z ls used
-      → Tells s₂ arena (z .reply .operation) (m .walk) (walk (document image) P work levels starts ls used)
+  flat-tells : m .deeper ≡ false → (P : Pass) (levels : ℕ) (y : State) → Holds s arena (z .reply .operation) z y
+      → Tells s₂ arena (z .reply .operation) (m .walk) (walk (document image) P stop (z .reply .operation) work levels starts y)
   unfolding walk
-  flat-tells flat P zero ls used h = tt
-  flat-tells flat P (suc levels) ls used h = met-done (z .reply .operation) met l list₁ ls used (holds₁ ls used h) flat (document image) P (walk (document image) P work levels)
+  flat-tells flat P zero y h = tt
+  flat-tells flat P (suc levels) y h = met-done (z .reply .operation) met l list₁ y (holds₁ y h) flat (walkParts (document image) P stop (z .reply .operation) (walk (document image) P stop (z .reply .operation) work levels) (P .parts l))
 
-  entered-same : m .deeper ≡ true → (P : Pass) (levels : ℕ) (ls : List (List ℕ)) (used : ℕ) → Holds s arena (z .reply .operation) z ls used
-      → walk (document image) P work levels starts ls used ≡ walkList image arena work (z .reply .operation) P levels l (ls ++ l ∷ []) (used + suc (length l))
+  entered-same : m .deeper ≡ true → (P : Pass) (levels : ℕ) (y : State) → Holds s arena (z .reply .operation) z y → (s″ : List ℕ) (z″ : states.Walk)
+      → Tells s″ arena (z .reply .operation) z″ (walkList image arena work (z .reply .operation) P levels l (paidFor l y))
+      → Tells s″ arena (z .reply .operation) z″ (walk (document image) P stop (z .reply .operation) work levels starts y)
   unfolding walk walkList
-  entered-same deeper P zero ls used h = refl
-  entered-same deeper P (suc levels) ls used h =
-      met-entered (z .reply .operation) met l list₁ ls used (holds₁ ls used h) deeper (heads-low regions) spread-more (begun .listed) (listed .grows) .2 (document image) P (walk (document image) P work levels)
+  entered-same deeper P zero y h s″ z″ tells = tt
+  entered-same deeper P (suc levels) y h s″ z″ tells =
+      rw (met-entered (z .reply .operation) met l list₁ y (holds₁ y h) deeper (heads-low regions) spread-more (begun .listed) (listed .grows) .2
+      (walkParts (document image) P stop (z .reply .operation) (walk (document image) P stop (z .reply .operation) work levels) (P .parts l))) tells
 
   rows-l : Rows image arena work (z .reply .operation) l
   rows-l = record {
@@ -294,7 +297,7 @@ module _ {image : List ℕ} {arena : Arena} {work : ℕ} {s s₁ s₂ : List ℕ
     framed : LinkFrame arena (m .list .start) s₂ s′
     framed = stood .frame (countAt image selections) (linkable deeper)
 
-    pub entered-linked : Entered image arena work (z .reply .operation) isShape (λ levels. walk (document image) (passOf image isShape) work levels starts) s s′ z m
+    pub entered-linked : Entered image arena work (z .reply .operation) isShape (λ levels. walk (document image) (passOf image isShape) stop (z .reply .operation) work levels starts) s s′ z m
     entered-linked = record {
       list = l;
       stands = record {
@@ -324,15 +327,15 @@ module _ {image : List ℕ} {arena : Arena} {work : ℕ} {s s₁ s₂ : List ℕ
         beyond = λ k h. framed .store k (omega arith) ∙ kept .beyond k h;
         grows = kept .grows;
       };
-      goes = λ ls used h.
-          let met-now = met-entered (z .reply .operation) met l list₁ ls used (holds₁ ls used h) deeper (heads-low regions) spread-more (begun .listed) (listed .grows) in
+      goes = λ y h.
+          let met-now = met-entered (z .reply .operation) met l list₁ y (holds₁ y h) deeper (heads-low regions) spread-more (begun .listed) (listed .grows) in
           let was = met-now .0 in
           record { known = known-kept (x .listed) (heads-low regions) (met-now .3) (framed .long) (λ k ge less. framed .links k ge (omega (arith, start-is deeper, begun .listed))) (λ k ge less. framed .store k ge) (was .known); reply = was .reply };
       same = entered-same deeper (passOf image isShape);
     }
 
-  pub flat-done : m .deeper ≡ false → {s′ : List ℕ} → s′ ≡ s₂ → (P : Pass) (levels : ℕ) → Refines image arena work (z .reply .operation) (walk (document image) P work levels starts) s s′ z (m .walk)
-  flat-done flat same P levels = rw same (record { tells = λ ls used h. flat-tells flat P levels ls used h; site = site₂; kept = kept })
+  pub flat-done : m .deeper ≡ false → {s′ : List ℕ} → s′ ≡ s₂ → (P : Pass) (levels : ℕ) → Refines image arena work (z .reply .operation) (walk (document image) P stop (z .reply .operation) work levels starts) s s′ z (m .walk)
+  flat-done flat same P levels = rw same (record { tells = λ y h. flat-tells flat P levels y h; site = site₂; kept = kept })
 
 -- what happens to the words once a list is met
 pub data Linking (arena : Arena) (isShape : Bool) (s s′ : List ℕ) (m : Met) : Type 0 where
@@ -358,7 +361,7 @@ meets-sets {image} {arena} {work} {s} {s₂ = s₂} {s′ = s′} {z = z} {x = x
 }
   where
     by-linking : Linking arena isShape s₂ s′ m → (starts : List ℕ) → Site image arena work (z .reply .operation) s z → Queued image arena work (z .reply .operation) s x starts
-        → Meets image arena work (z .reply .operation) isShape (λ levels. walk (document image) (passOf image isShape) work levels starts) s s′ z m
+        → Meets image arena work (z .reply .operation) isShape (λ levels. walk (document image) (passOf image isShape) stop (z .reply .operation) work levels starts) s s′ z m
     by-linking (links-it deeper stood) starts site queued = record {
       done = λ flat. absurd (false≢true (sym flat ∙ deeper));
       entered = λ _. entered-linked ample begun expanded met starts site queued deeper stood;

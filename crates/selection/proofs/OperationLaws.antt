@@ -8,7 +8,8 @@ use lib.ListN.{length, replicate}
 use Rattle.lists.specs.Part.{write, Stores, Outside}
 use Rattle.lists.proofs.Parts.{stores-none, outside-wider}
 use Rattle.merge_theory.specs.Rule.{Reached, start}
-use Rattle.merge_theory.specs.Walk.{Step, walk}
+use Rattle.merge_theory.specs.Steps.{State, Step, stop}
+use Rattle.merge_theory.specs.Walk.{fresh, walk}
 use Rattle.merge_theory.proofs.ListLaws.{not-in-nil, only}
 use Rattle.tables.specs.Layout.{operations, fragments, sets}
 use Rattle.tables.specs.Image.{countAt}
@@ -18,7 +19,7 @@ use Rattle.selection.specs.declared.expand.Expansion.{Expansion}
 use Rattle.selection.specs.declared.walk.Met.{Met}
 use Rattle.selection.specs.ImageDocument.{limitOfLinks}
 use Rattle.selection.specs.Expanding.{queueNext, queueWords, once-none, once-more, StartSet, of-operation}
-use Rattle.selection.specs.Refining.{document, passOf, Ample, Begun, Site, Refines, Meets, MeetsSets, WalksList}
+use Rattle.selection.specs.Refining.{paidFor, document, passOf, Ample, Begun, Site, Refines, Meets, MeetsSets, WalksList}
 use Rattle.selection.specs.Validating.{forgotten, MeetsOperation, Runs}
 use Rattle.selection.proofs.ExpandedLaws.{queue-next, queue-stores, queue-outside}
 use Rattle.selection.proofs.ClearLaws.{Cleared, cleared}
@@ -35,7 +36,7 @@ meets-aside : {image : List ℕ} {arena : Arena} {work op : ℕ} {isShape : Bool
 meets-aside {step = step} site o go inner =
     let beside = aside site o in
     record {
-      done = λ flat levels. by (step levels) (λ ls used h. sym (finished-first (step levels) ls used)) (then-go beside go (inner .done flat levels));
+      done = λ flat levels. by (step levels) (λ y h. sym (finished-first (step levels) y)) (then-go beside go (inner .done flat levels));
       entered = λ deeper.
           let e = inner .entered deeper in
           record {
@@ -46,8 +47,8 @@ meets-aside {step = step} site o go inner =
             stored = e .stored;
             site = e .site;
             kept = kept-trans (beside .kept) (e .kept);
-            goes = λ ls used h. e .goes ls used (beside .tells ls used h);
-            same = λ levels ls used h. e .same levels ls used (beside .tells ls used h);
+            goes = λ y h. e .goes y (beside .tells y h);
+            same = λ levels y h s″ z″ tells. e .same levels y (beside .tells y h) s″ z″ tells;
           };
     }
 
@@ -126,7 +127,7 @@ module _ {image : List ℕ} {arena : Arena} {work op : ℕ} {s s₀ : List ℕ} 
 runs-by : {image : List ℕ} {arena : Arena} {work operation : ℕ} {s s₀ s′ : List ℕ} {z z′ : states.Walk} {isShape : Bool} → s₀ ≡ emptied arena s → length s′ ≡ length s
     → z′ .reply .operation ≡ z .reply .operation → (z′ .reply .kind ≡ 0 → Ample work 0 z′)
     → (Site image arena work (z .reply .operation) s₀ z → operation ≡ z .reply .operation → operation < countAt image operations
-    → Refines image arena work (z .reply .operation) (walk (document image) (passOf image isShape) work (suc limitOfLinks) (operation ∷ [])) s₀ s′ (forgotten z) z′)
+    → Refines image arena work (z .reply .operation) (walk (document image) (passOf image isShape) stop (z .reply .operation) work (suc limitOfLinks) (operation ∷ [])) s₀ s′ (forgotten z) z′)
     → Runs image arena work operation s s′ z isShape z′
 runs-by {arena = arena} forgot long same ample refines = record {
   long = long;
@@ -142,7 +143,7 @@ runs-by {arena = arena} forgot long same ample refines = record {
         below = λ i h. k .parents i h ∙ o .below i (omega (arith, before-heads forgot site));
         beyond = λ i h. k .beyond i h ∙ o .above i (omega (arith, heads-low r, r .store));
       };
-  tells = λ used site is row reply. refines (site-emptied forgot site) is row .tells [] used (record { known = known-none (λ key h. heads-clear forgot site .empty key (omega arith)); reply = reply });
+  tells = λ y site is row reply. refines (site-emptied forgot site) is row .tells (fresh y) (record { known = known-none (λ key h. heads-clear forgot site .empty key (omega arith)); reply = reply });
 }
 
 module _ {image : List ℕ} {arena : Arena} {work operation : ℕ} {s s₀ s₁ : List ℕ} {z : states.Walk} {m : Met} (isShape : Bool) (forgot : s₀ ≡ emptied arena s) (long₁ : length s₁ ≡ length s)
@@ -156,7 +157,7 @@ module _ {image : List ℕ} {arena : Arena} {work operation : ℕ} {s s₀ s₁ 
       let e = met .meets site is row .entered deeper in
       let r = walks (e .list) (e .site) (e .stands) (e .ordered) (e .stored) (e .rows) in
       record {
-        tells = λ ls used h. rw (e .same (suc limitOfLinks) ls used h) (r .tells (ls ++ e .list ∷ []) (used + suc (length (e .list))) (e .goes ls used h));
+        tells = λ y h. e .same (suc limitOfLinks) y h s′ z′ (r .tells (paidFor (e .list) y) (e .goes y h));
         site = r .site;
         kept = kept-trans (e .kept) (r .kept);
       }

@@ -1,5 +1,5 @@
 -- One part of a list: compared, and its sets met. The three ways that this ends. Assumes nothing.
-use mathlib.Core.Path.{_≡_, refl, sym, ap, _∙_}
+use mathlib.Core.Path.{_≡_, refl, sym, ap, _∙_, subst}
 use mathlib.Core.Bool.{Bool, true, false, false≢true}
 use mathlib.Core.Option.{Option, none, some}
 use mathlib.Core.List.{List, [], _∷_}
@@ -10,7 +10,8 @@ use Rattle.lists.specs.Part.{Outside}
 use Rattle.lists.proofs.Parts.{stores-none, stores-length}
 use Rattle.merge_theory.specs.Lists.{here, flatMap, filter}
 use Rattle.merge_theory.specs.Document.{Cause}
-use Rattle.merge_theory.specs.Walk.{Result, finished, conflict, Step, after, settle, against, compareFirst, descend, setsBelow, walk}
+use Rattle.merge_theory.specs.Steps.{Entry, entry, State, Result, finished, conflict, Step, after, _then_, stop, tell}
+use Rattle.merge_theory.specs.Walk.{against, compareFirst, descend, setsBelow, walk}
 use Rattle.tables.specs.Layout.{sets}
 use Rattle.selection.specs.declared.arena.Arena.{Arena}
 use Rattle.selection.specs.declared.arena.Walk as states
@@ -29,41 +30,41 @@ use Rattle.selection.proofs.StandLaws.{heads-low, grounded, threaded, s
 use Rattle.selection.proofs.BelowLaws.{below-start, below-hand, below-once, below-few}
 
 -- a comparison finds a conflict, or changes nothing
-pub data Quiet (ls : List (List ℕ)) (used : ℕ) : Result → Type 0 where
-  quiet : Quiet ls used (finished ls used)
-  loud : (c : Cause) (a b : ℕ) → Quiet ls used (conflict c a b used)
+pub data Quiet (y : State) : Result → Type 0 where
+  quiet : Quiet y (finished y)
+  loud : (e : Entry) → Quiet y (conflict e y)
 
-against-quiet : (clash : ℕ → ℕ → Option Cause) (a : ℕ) (others : List ℕ) (ls : List (List ℕ)) (used : ℕ) → Quiet ls used (against clash a others ls used)
-unfolding against settle
-against-quiet clash a [] ls used = quiet
-against-quiet clash a (b ∷ others) ls used = go (clash a b) (against-quiet clash a others ls used)
+against-quiet : (op : ℕ) (clash : ℕ → ℕ → Option Cause) (a : ℕ) (others : List ℕ) (y : State) → Quiet y (against stop op clash a others y)
+unfolding against tell after
+against-quiet op clash a [] y = quiet
+against-quiet op clash a (b ∷ others) y = go (clash a b) (against-quiet op clash a others y)
   where
-    go : (o : Option Cause) → Quiet ls used (against clash a others ls used) → Quiet ls used (settle o a b (against clash a others) ls used)
+    go : (o : Option Cause) → Quiet y (against stop op clash a others y) → Quiet y (after (tell stop op o a b y) (against stop op clash a others))
     go none q = q
-    go (some c) q = loud c a b
+    go (some c) q = loud (entry op c a b)
 
-compare-quiet : (clash : ℕ → ℕ → Option Cause) (rows : List ℕ) (ls : List (List ℕ)) (used : ℕ) → Quiet ls used (compareFirst clash rows ls used)
+compare-quiet : (op : ℕ) (clash : ℕ → ℕ → Option Cause) (rows : List ℕ) (y : State) → Quiet y (compareFirst stop op clash rows y)
 unfolding compareFirst
-compare-quiet clash [] ls used = quiet
-compare-quiet clash (a ∷ others) ls used = against-quiet clash a others ls used
+compare-quiet op clash [] y = quiet
+compare-quiet op clash (a ∷ others) y = against-quiet op clash a others y
 
-finished-if : (s : List ℕ) (arena : Arena) (op : ℕ) (z : states.Walk) {ls : List (List ℕ)} {used : ℕ} (r : Result) → Quiet ls used r → Tells s arena op z r → z .reply .kind ≡ 0 → r ≡ finished ls used
-finished-if s arena op z (finished ls′ used′) quiet h go = refl
-finished-if s arena op z (conflict c a b used′) (loud d p q) h go = absurd (some-kind c (sym (ap (λ r. r .kind) h) ∙ go))
+finished-if : (s : List ℕ) (arena : Arena) (op : ℕ) (z : states.Walk) {y : State} (r : Result) → Quiet y r → Tells s arena op z r → z .reply .kind ≡ 0 → r ≡ finished y
+finished-if s arena op z (finished y) quiet h go = refl
+finished-if s arena op z (conflict (entry t c a b) y) (loud f) h go = absurd (some-kind c (sym (ap (λ r. r .kind) h) ∙ go))
 
-pub finished-first : (g : Step) (ls : List (List ℕ)) (used : ℕ) → after (finished ls used) g ≡ g ls used
+pub finished-first : (g : Step) (y : State) → after (finished y) g ≡ g y
 unfolding after
-finished-first g ls used = refl
+finished-first g y = refl
 
-nothing-below : (f : List ℕ → Step) (sets : List ℕ) → length sets ≡ 0 → (ls : List (List ℕ)) (used : ℕ) → descend f sets ls used ≡ finished ls used
+nothing-below : (f : List ℕ → Step) (sets : List ℕ) → length sets ≡ 0 → (y : State) → descend f sets y ≡ finished y
 unfolding descend
-nothing-below f [] e ls used = refl
-nothing-below f (t ∷ sets) e ls used = absurd (omega arith)
+nothing-below f [] e y = refl
+nothing-below f (t ∷ sets) e y = absurd (omega arith)
 
-sets-below : (f : List ℕ → Step) (sets : List ℕ) → (length sets ≡ 0 → ⊥) → (ls : List (List ℕ)) (used : ℕ) → descend f sets ls used ≡ f sets ls used
+sets-below : (f : List ℕ → Step) (sets : List ℕ) → (length sets ≡ 0 → ⊥) → (y : State) → descend f sets y ≡ f sets y
 unfolding descend
-sets-below f [] some-sets ls used = absurd (some-sets refl)
-sets-below f (t ∷ sets) some-sets ls used = refl
+sets-below f [] some-sets y = absurd (some-sets refl)
+sets-below f (t ∷ sets) some-sets y = refl
 
 -- a part of one field without a set: nothing happens
 pub part-bare : {image s : List ℕ} {arena : Arena} {work : ℕ} {z : states.Walk} {part : Part} (isShape : Bool) {r : Bool} → Ample work 0 z → Bare image s arena part r → r ≡ true
@@ -82,9 +83,9 @@ part-bare {image} {s} {arena} {work} {z} {part} isShape ample bare is = record {
       record {
         done = λ _ levels.
             by (onePart image arena work (z .reply .operation) (passOf image isShape) levels rows)
-            (λ ls used h. rw only
-            (finished-first (lower image arena work (z .reply .operation) (passOf image isShape) levels (setsBelow (document image) (rowIn s (arena .store) (part .first) ∷ []))) ls used
-            ∙ nothing-below (walk (document image) (passOf image isShape) work levels) (setsBelow (document image) (rowIn s (arena .store) (part .first) ∷ [])) (ap length no-sets) ls used))
+            (λ y h. rw only
+            (finished-first (lower image arena work (z .reply .operation) (passOf image isShape) levels (setsBelow (document image) (rowIn s (arena .store) (part .first) ∷ []))) y
+            ∙ nothing-below (walk (document image) (passOf image isShape) stop (z .reply .operation) work levels) (setsBelow (document image) (rowIn s (arena .store) (part .first) ∷ [])) (ap length no-sets) y))
             (idle site);
         entered = λ e. absurd (false≢true e);
       };
@@ -96,7 +97,7 @@ pub aside : {image : List ℕ} {arena : Arena} {work op : ℕ} {s s′ : List �
 aside {image} {arena} {work} {op} {s} {s′} {z} site o =
     let r = site .regions in
     record {
-      tells = λ ls used h. record {
+      tells = λ y h. record {
         known = known-kept (z .known) (heads-low r) (known-told (h .known)) (o .long) (λ k ge less. o .above k (omega (arith, r .lasts, r .heads))) (λ k ge less. o .above k (omega (arith, r .lasts, r .heads, r .links, r .store))) (h .known);
         reply = h .reply;
       };
@@ -116,9 +117,9 @@ module _ {image : List ℕ} {arena : Arena} {work : ℕ} {s : List ℕ} {z z₁ 
   module _ (l rows : List ℕ) (site : Site image arena work (z .reply .operation) s z) (stands : Stands arena isShape s (part .list) l)
       (listed : Rows image arena work (z .reply .operation) l) (p : PartAt (document image) isShape s (arena .store) l part rows) where
     compare-refines : (z₁ .reply .kind ≡ 0 → Site image arena work (z .reply .operation) s z₁)
-        → Refines image arena work (z .reply .operation) (compareFirst (passOf image isShape .clash) rows) s s z z₁
+        → Refines image arena work (z .reply .operation) (compareFirst stop (z .reply .operation) (passOf image isShape .clash) rows) s s z z₁
     compare-refines site₁ = record {
-      tells = λ ls used h. compared .tells l rows (grounded site listed (stands .rows)) (threaded site listed stands) p ls used h;
+      tells = λ y h. compared .tells l rows (grounded site listed (stands .rows)) (threaded site listed stands) p y h;
       site = site₁;
       kept = kept-none s z z₁ (omega (arith, compared .known));
     }
@@ -154,7 +155,7 @@ module _ {image : List ℕ} {arena : Arena} {work : ℕ} {s : List ℕ} {z z₁ 
         fits = omega (arith, below-few site fields, site .regions .lasts);
       })
 
-      compare-done : Refines image arena work (z .reply .operation) (compareFirst (passOf image isShape .clash) rows) s s z z
+      compare-done : Refines image arena work (z .reply .operation) (compareFirst stop (z .reply .operation) (passOf image isShape .clash) rows) s s z z
       compare-done = rw same-state at (compare-refines l rows site stands listed p (λ _. rw same-state site))
 
       goes : z .reply .kind ≡ 0
@@ -177,7 +178,7 @@ module _ {image : List ℕ} {arena : Arena} {work : ℕ} {s : List ℕ} {z z₁ 
             let q = queues l rows site stands ordered listed p fields in
             then-go (compare-done l rows site stands ordered listed p fields) (ample .going)
             (by (lower image arena work (z .reply .operation) (passOf image isShape) levels (setsBelow (document image) rows))
-            (λ ls used h. nothing-below (walk (document image) (passOf image isShape) work levels) (setsBelow (document image) rows) (size l rows site stands ordered listed p fields ∙ none-queued) ls used)
+            (λ y h. nothing-below (walk (document image) (passOf image isShape) stop (z .reply .operation) work levels) (setsBelow (document image) rows) (size l rows site stands ordered listed p fields ∙ none-queued) y)
             (aside site (q .frame)));
         entered = λ e. absurd (false≢true e);
       };
@@ -205,7 +206,7 @@ module _ {image : List ℕ} {arena : Arena} {work : ℕ} {s : List ℕ} {z z₁ 
             done = λ flat levels.
                 then-go (compare-done l rows site stands ordered listed p fields) (ample .going)
                 (by (lower image arena work (z .reply .operation) (passOf image isShape) levels (setsBelow (document image) rows))
-                (λ ls used h. sets-below (walk (document image) (passOf image isShape) work levels) (setsBelow (document image) rows) some-below ls used ∙ sym (finished-first _ ls used))
+                (λ y h. sets-below (walk (document image) (passOf image isShape) stop (z .reply .operation) work levels) (setsBelow (document image) rows) some-below y ∙ sym (finished-first _ y))
                 (then-go beside (ample .going) (inner .done flat levels)));
             entered = λ deeper.
                 let e = inner .entered deeper in
@@ -217,14 +218,15 @@ module _ {image : List ℕ} {arena : Arena} {work : ℕ} {s : List ℕ} {z z₁ 
                   stored = e .stored;
                   site = e .site;
                   kept = kept-trans (beside .kept) (e .kept);
-                  goes = λ ls used h. e .goes ls used (beside .tells ls used h);
-                  same = λ levels ls used h.
-                      let still : compareFirst (passOf image isShape .clash) rows ls used ≡ finished ls used =
-                      finished-if s arena (z .reply .operation) z (compareFirst (passOf image isShape .clash) rows ls used) (compare-quiet (passOf image isShape .clash) rows ls used) (compare-done l rows site stands ordered listed p fields .tells ls used h) (ample .going) in
+                  goes = λ y h. e .goes y (beside .tells y h);
+                  same = λ levels y h s″ z″ tells.
+                      let still : compareFirst stop (z .reply .operation) (passOf image isShape .clash) rows y ≡ finished y =
+                      finished-if s arena (z .reply .operation) z (compareFirst stop (z .reply .operation) (passOf image isShape .clash) rows y) (compare-quiet (z .reply .operation) (passOf image isShape .clash) rows y) (compare-done l rows site stands ordered listed p fields .tells y h) (ample .going) in
+                      let on : onePart image arena work (z .reply .operation) (passOf image isShape) levels rows y ≡ walk (document image) (passOf image isShape) stop (z .reply .operation) work levels (setsBelow (document image) rows) y =
                       ap (λ r. after r (lower image arena work (z .reply .operation) (passOf image isShape) levels (setsBelow (document image) rows))) still
-                      ∙ finished-first _ ls used
-                      ∙ sets-below (walk (document image) (passOf image isShape) work levels) (setsBelow (document image) rows) some-below ls used
-                      ∙ e .same levels ls used (beside .tells ls used h);
+                      ∙ finished-first _ y
+                      ∙ sets-below (walk (document image) (passOf image isShape) stop (z .reply .operation) work levels) (setsBelow (document image) rows) some-below y in
+                      subst (λ r. Tells s″ arena (z .reply .operation) z″ r) (sym on) (e .same levels y (beside .tells y h) s″ z″ tells);
                 };
           };
     }

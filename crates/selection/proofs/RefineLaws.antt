@@ -9,14 +9,16 @@ use lib.ListN.{length}
 use borrow.Author.Tests.{leb-true, eqb-true, eqb-false}
 use Rattle.lists.proofs.Parts.{stores-length}
 use Rattle.merge_theory.specs.Lists.{isKnown}
-use Rattle.merge_theory.specs.Document.{Document, Cause, shape, name, arguments, numberOf}
-use Rattle.merge_theory.specs.Walk.{Result, finished, conflict, out, deep, Step, after, _then_, Pass, chargeIf, charge, costOf, note, enter, meet, walkParts}
+use Rattle.merge_theory.specs.Document.{Cause, shape, name, arguments, numberOf}
+use Rattle.merge_theory.specs.Steps.{Entry, entry, State, Result, finished, conflict, out, deep, Step, after, _then_, chargeIf, charge}
+use Rattle.merge_theory.specs.Steps as steps
+use Rattle.merge_theory.specs.Walk.{costOf, note, enter, meet}
 use Rattle.selection.specs.declared.arena.Arena.{Arena}
 use Rattle.selection.specs.declared.arena.Walk as states
 use Rattle.selection.specs.declared.arena.List as places
 use Rattle.selection.specs.declared.walk.Met.{Met}
 use Rattle.selection.specs.KnownLists.{AtHand, headAt, keptWords}
-use Rattle.selection.specs.Refining.{Holds, Tells, charged, lengthOf, entered, metList, metWords, MeetsList, Site, Kept, Refines}
+use Rattle.selection.specs.Refining.{paidFor, Holds, Tells, charged, lengthOf, entered, metList, metWords, MeetsList, Site, Kept, Refines}
 use Rattle.selection.proofs.KnownLaws.{head-is, ToldBelow, keeps, known-more}
 
 pub some-kind : (c : Cause) → numberOf c ≡ 0 → ⊥
@@ -28,20 +30,20 @@ some-kind arguments e = omega arith
 
 -- the walk goes on: only where the first step finished
 pub tells-go : (s s′ : List ℕ) (arena : Arena) (op : ℕ) (z z′ : states.Walk) (r : Result) (next : Step) → Tells s arena op z r → z .reply .kind ≡ 0
-    → ((ls : List (List ℕ)) (used : ℕ) → Holds s arena op z ls used → Tells s′ arena op z′ (next ls used)) → Tells s′ arena op z′ (after r next)
+    → ((y : State) → Holds s arena op z y → Tells s′ arena op z′ (next y)) → Tells s′ arena op z′ (after r next)
 unfolding after
-tells-go s s′ arena op z z′ (finished ls used) next h go f = f ls used h
-tells-go s s′ arena op z z′ (conflict c a b used) next h go f = absurd (some-kind c (sym (ap (λ r. r .kind) h) ∙ go))
-tells-go s s′ arena op z z′ (out used) next h go f = absurd (let k : z .reply .kind ≡ 17 = ap (λ r. r .kind) h in omega arith)
-tells-go s s′ arena op z z′ deep next h go f = tt
+tells-go s s′ arena op z z′ (finished y) next h go f = f y h
+tells-go s s′ arena op z z′ (conflict (entry t c a b) y) next h go f = absurd (some-kind c (sym (ap (λ r. r .kind) h) ∙ go))
+tells-go s s′ arena op z z′ (out y) next h go f = absurd (let k : z .reply .kind ≡ 17 = ap (λ r. r .kind) h in omega arith)
+tells-go s s′ arena op z z′ (deep y) next h go f = tt
 
 -- the walk stops
 pub tells-stop : (s : List ℕ) (arena : Arena) (op : ℕ) (z : states.Walk) (r : Result) (next : Step) → Tells s arena op z r → (z .reply .kind ≡ 0 → ⊥) → Tells s arena op z (after r next)
 unfolding after
-tells-stop s arena op z (finished ls used) next h stop = absurd (stop (ap (λ r. r .kind) (h .reply)))
-tells-stop s arena op z (conflict c a b used) next h stop = h
-tells-stop s arena op z (out used) next h stop = h
-tells-stop s arena op z deep next h stop = tt
+tells-stop s arena op z (finished y) next h stop = absurd (stop (ap (λ r. r .kind) (h .reply)))
+tells-stop s arena op z (conflict e y) next h stop = h
+tells-stop s arena op z (out y) next h stop = h
+tells-stop s arena op z (deep y) next h stop = tt
 
 module _ {image : List ℕ} {arena : Arena} {work op : ℕ} where
   pub kept-trans : {s s′ s″ : List ℕ} {z z′ z″ : states.Walk} → Kept image arena work op s s′ z z′ → Kept image arena work op s′ s″ z′ z″ → Kept image arena work op s s″ z z″
@@ -60,7 +62,7 @@ module _ {image : List ℕ} {arena : Arena} {work op : ℕ} where
   pub then-go : {f g : Step} {s s′ s″ : List ℕ} {z z′ z″ : states.Walk} → Refines image arena work op f s s′ z z′ → z′ .reply .kind ≡ 0
       → Refines image arena work op g s′ s″ z′ z″ → Refines image arena work op (f then g) s s″ z z″
   then-go {f} {g} {s} {s′} {s″} {z} {z′} {z″} p go q = record {
-    tells = λ ls used h. tells-go s′ s″ arena op z′ z″ (f ls used) g (p .tells ls used h) go (q .tells);
+    tells = λ y h. tells-go s′ s″ arena op z′ z″ (f y) g (p .tells y h) go (q .tells);
     site = q .site;
     kept = kept-trans (p .kept) (q .kept);
   }
@@ -68,35 +70,35 @@ module _ {image : List ℕ} {arena : Arena} {work op : ℕ} where
   pub then-stop : {f : Step} (g : Step) {s s′ : List ℕ} {z z′ : states.Walk} → Refines image arena work op f s s′ z z′ → (z′ .reply .kind ≡ 0 → ⊥)
       → Refines image arena work op (f then g) s s′ z z′
   then-stop {f} g {s} {s′} {z} {z′} p stop = record {
-    tells = λ ls used h. tells-stop s′ arena op z′ (f ls used) g (p .tells ls used h) stop;
+    tells = λ y h. tells-stop s′ arena op z′ (f y) g (p .tells y h) stop;
     site = p .site;
     kept = p .kept;
   }
 
   -- a step that does, at this state, what another does
-  pub by : {f : Step} (g : Step) {s s′ : List ℕ} {z z′ : states.Walk} → ((ls : List (List ℕ)) (used : ℕ) → Holds s arena op z ls used → g ls used ≡ f ls used)
+  pub by : {f : Step} (g : Step) {s s′ : List ℕ} {z z′ : states.Walk} → ((y : State) → Holds s arena op z y → g y ≡ f y)
       → Refines image arena work op f s s′ z z′ → Refines image arena work op g s s′ z z′
-  by g {s′ = s′} {z′ = z′} same p = record { tells = λ ls used h. rw (same ls used h) (p .tells ls used h); site = p .site; kept = p .kept }
+  by g {s′ = s′} {z′ = z′} same p = record { tells = λ y h. rw (same y h) (p .tells y h); site = p .site; kept = p .kept }
 
   pub idle : {s : List ℕ} {z : states.Walk} → Site image arena work op s z → Refines image arena work op finished s s z z
-  idle {s} {z} site = record { tells = λ ls used h. h; site = λ _. site; kept = kept-none s z z (omega arith) }
+  idle {s} {z} site = record { tells = λ y h. h; site = λ _. site; kept = kept-none s z z (omega arith) }
 
 -- ---- a charge
 
-pub charge-tells : (s : List ℕ) (arena : Arena) (op work cost : ℕ) (z : states.Walk) (ls : List (List ℕ)) (used : ℕ) → Holds s arena op z ls used
-    → Tells s arena op (charged work cost z) (charge work cost ls used)
+pub charge-tells : (s : List ℕ) (arena : Arena) (op work cost : ℕ) (z : states.Walk) (y : State) → Holds s arena op z y
+    → Tells s arena op (charged work cost z) (charge work cost y)
 unfolding charged charge chargeIf
-charge-tells s arena op work cost z ls used h = rw (ap (λ r. r .used) (h .reply)) (go (leb (used + cost) work))
+charge-tells s arena op work cost z y h = rw (ap (λ r. r .used) (h .reply)) (go (leb (y .used + cost) work))
   where
     go : (b : Bool) → Tells s arena op (cond b (record {
-      reply = record { kind = z .reply .kind; operation = z .reply .operation; a = z .reply .a; b = z .reply .b; used = used + cost };
+      reply = record { kind = z .reply .kind; operation = z .reply .operation; a = z .reply .a; b = z .reply .b; used = y .used + cost };
       known = z .known;
       expansions = z .expansions;
     }) (record {
-      reply = record { kind = 17; operation = z .reply .operation; a = z .reply .a; b = z .reply .b; used = used };
+      reply = record { kind = 17; operation = z .reply .operation; a = z .reply .a; b = z .reply .b; used = y .used };
       known = z .known;
       expansions = z .expansions;
-    })) (chargeIf b cost ls used)
+    })) (chargeIf b cost y)
     go true = record { known = h .known; reply = rw (h .reply) }
     go false = rw (h .reply)
 
@@ -109,33 +111,33 @@ unfolding charged
 refused-kind work cost z used units e = rw (units, e)
 
 -- a charge that left the reply at 0 was made
-pub record Paid (work cost : ℕ) (z : states.Walk) (ls : List (List ℕ)) (used : ℕ) : Type 0 where
-  pub made : charge work cost ls used ≡ finished ls (used + cost)
-  pub fits : used + cost ≤ work
-  pub units : charged work cost z .reply .used ≡ used + cost
+pub record Paid (work cost : ℕ) (z : states.Walk) (y : State) : Type 0 where
+  pub made : charge work cost y ≡ finished (steps.charged cost y)
+  pub fits : y .used + cost ≤ work
+  pub units : charged work cost z .reply .used ≡ y .used + cost
 
-paid-if : (s : List ℕ) (arena : Arena) (op work cost : ℕ) (z : states.Walk) (ls : List (List ℕ)) (used : ℕ) → Holds s arena op z ls used → leb (used + cost) work ≡ true → Paid work cost z ls used
+paid-if : (s : List ℕ) (arena : Arena) (op work cost : ℕ) (z : states.Walk) (y : State) → Holds s arena op z y → leb (y .used + cost) work ≡ true → Paid work cost z y
 unfolding charge chargeIf
-paid-if s arena op work cost z ls used h e =
-    record { made = rw e; fits = leb-true (used + cost) work e; units = paid-fields work cost z used (ap (λ r. r .used) (h .reply)) e }
+paid-if s arena op work cost z y h e =
+    record { made = rw e; fits = leb-true (y .used + cost) work e; units = paid-fields work cost z (y .used) (ap (λ r. r .used) (h .reply)) e }
 
-pub charge-paid : (s : List ℕ) (arena : Arena) (op work cost : ℕ) (z : states.Walk) (ls : List (List ℕ)) (used : ℕ) → Holds s arena op z ls used
-    → charged work cost z .reply .kind ≡ 0 → Paid work cost z ls used
-charge-paid s arena op work cost z ls used h go = by-test (leb (used + cost) work) refl
+pub charge-paid : (s : List ℕ) (arena : Arena) (op work cost : ℕ) (z : states.Walk) (y : State) → Holds s arena op z y
+    → charged work cost z .reply .kind ≡ 0 → Paid work cost z y
+charge-paid s arena op work cost z y h go = by-test (leb (y .used + cost) work) refl
   where
-    units : z .reply .used ≡ used
+    units : z .reply .used ≡ y .used
     units = ap (λ r. r .used) (h .reply)
 
-    by-test : (b : Bool) → leb (used + cost) work ≡ b → Paid work cost z ls used
-    by-test true e = paid-if s arena op work cost z ls used h e
-    by-test false e = absurd (let k = refused-kind work cost z used units e in omega (arith, k, go))
+    by-test : (b : Bool) → leb (y .used + cost) work ≡ b → Paid work cost z y
+    by-test true e = paid-if s arena op work cost z y h e
+    by-test false e = absurd (let k = refused-kind work cost z (y .used) units e in omega (arith, k, go))
 
 pub after-finished : (r : Result) → after r finished ≡ r
 unfolding after
-after-finished (finished ls used) = refl
-after-finished (conflict c a b used) = refl
-after-finished (out used) = refl
-after-finished deep = refl
+after-finished (finished y) = refl
+after-finished (conflict e y) = refl
+after-finished (out y) = refl
+after-finished (deep y) = refl
 
 -- ---- a list that is met
 
@@ -170,42 +172,42 @@ module _ {s s′ : List ℕ} {arena : Arena} {work : ℕ} {z : states.Walk} {x :
   rows-are : lengthOf x ≡ length l
   rows-are = sym (stores-length (list .rows))
 
-  module _ (ls : List (List ℕ)) (used : ℕ) (h : Holds s arena op z ls used) where
-    old-is : m .old ≡ isKnown l ls
-    old-is = m .decides .answer ls l (h .known) list
+  module _ (y : State) (h : Holds s arena op z y) where
+    old-is : m .old ≡ isKnown l (y .known)
+    old-is = m .decides .answer (y .known) l (h .known) list
 
     -- nothing is deeper: the charge is all
-    pub met-done : r .deeper ≡ false → (D : Document) (P : Pass) (below : List ℕ → Step) → Tells s′ arena op (r .walk) (meet D P work below l (isKnown l ls) ls used)
+    pub met-done : r .deeper ≡ false → (walked : Step) → Tells s′ arena op (r .walk) (meet work l walked (isKnown l (y .known)) y)
     unfolding meet enter costOf
-    met-done flat D P below = rw (← old-is) (go (met-case m))
+    met-done flat walked = rw (← old-is) (go (met-case m))
       where
-        go : MetCase s s′ arena work z x (m .old) r → Tells s′ arena op (r .walk) (meet D P work below l (m .old) ls used)
-        go (again old result words) = rw (old, words, result, after-finished (charge work 1 ls used)) (charge-tells s arena op work 1 z ls used h)
+        go : MetCase s s′ arena work z x (m .old) r → Tells s′ arena op (r .walk) (meet work l walked (m .old) y)
+        go (again old result words) = rw (old, words, result, after-finished (charge work 1 y)) (charge-tells s arena op work 1 z y h)
         go (refused old stop result words) =
             rw (old, words, result)
-            (tells-stop s arena op (charged work (1 + lengthOf x) z) (charge work (1 + length l) ls used) (enter D P below l false)
-            (rw (← rows-are) (charge-tells s arena op work (1 + lengthOf x) z ls used h)) stop)
+            (tells-stop s arena op (charged work (1 + lengthOf x) z) (charge work (1 + length l) y) (enter l walked false)
+            (rw (← rows-are) (charge-tells s arena op work (1 + lengthOf x) z y h)) stop)
         go (stored old go-on result words) = absurd (false≢true (sym flat ∙ ap (λ (k : Met). k .deeper) result))
 
     -- a new list that is paid: it is known now, and its parts are walked
     pub met-entered : r .deeper ≡ true → arena .heads + arena .names < arena .links → arena .links + 4 * suc (z .known) ≤ arena .store → x .start ≡ z .known + 1 → x .start ≤ x .end
-        → Holds s′ arena op (r .walk) (ls ++ l ∷ []) (used + suc (length l)) × (used + suc (length l) ≤ work)
-        × ((D : Document) (P : Pass) (below : List ℕ → Step) → meet D P work below l (isKnown l ls) ls used ≡ walkParts D P below (P .parts l) (ls ++ l ∷ []) (used + suc (length l)))
+        → Holds s′ arena op (r .walk) (paidFor l y) × (y .used + suc (length l) ≤ work)
+        × ((walked : Step) → meet work l walked (isKnown l (y .known)) y ≡ walked (paidFor l y))
         × ToldBelow arena s′ (x .start)
     unfolding meet enter costOf note after
     met-entered deeper low spread start ordered = go (met-case m)
       where
-        go : MetCase s s′ arena work z x (m .old) r → Holds s′ arena op (r .walk) (ls ++ l ∷ []) (used + suc (length l)) × (used + suc (length l) ≤ work)
-            × ((D : Document) (P : Pass) (below : List ℕ → Step) → meet D P work below l (isKnown l ls) ls used ≡ walkParts D P below (P .parts l) (ls ++ l ∷ []) (used + suc (length l)))
+        go : MetCase s s′ arena work z x (m .old) r → Holds s′ arena op (r .walk) (paidFor l y) × (y .used + suc (length l) ≤ work)
+            × ((walked : Step) → meet work l walked (isKnown l (y .known)) y ≡ walked (paidFor l y))
             × ToldBelow arena s′ (x .start)
         go (again old result words) = absurd (false≢true (sym (ap (λ (k : Met). k .deeper) result) ∙ deeper))
         go (refused old stop result words) = absurd (false≢true (sym (ap (λ (k : Met). k .deeper) result) ∙ deeper))
         go (stored old go-on result words) =
             let n = lengthOf x in
-            let paid = charge-paid s arena op work (1 + n) z ls used h go-on in
-            let size : used + (1 + n) ≡ used + suc (length l) = omega (arith, rows-are) in
+            let paid = charge-paid s arena op work (1 + n) z y h go-on in
+            let size : y .used + (1 + n) ≡ y .used + suc (length l) = omega (arith, rows-are) in
             let cost : 1 + n ≡ 1 + length l = omega (arith, rows-are) in
-            let holds : Holds s arena op (charged work (1 + n) z) ls (used + (1 + n)) = rw (paid .made) at (charge-tells s arena op work (1 + n) z ls used h) in
+            let holds : Holds s arena op (charged work (1 + n) z) (steps.charged (1 + n) y) = rw (paid .made) at (charge-tells s arena op work (1 + n) z y h) in
             let known = known-more l low spread (head-is arena list) (omega arith) ordered (keeps arena (headAt arena s x) (z .known) x s) (h .known) list in
-            let made : charge work (1 + length l) ls used ≡ finished ls (used + suc (length l)) = rw (← cost, paid .made, size) in
-            (rw (words, result, ← size) (record { known = known .0; reply = holds .reply }), omega (arith, paid .fits, rows-are), λ D P below. rw (← old-is, old, made), rw words (known .1))
+            let made : charge work (1 + length l) y ≡ finished (steps.charged (suc (length l)) y) = rw (← cost, paid .made, size) in
+            (rw (words, result, ← size) (record { known = known .0; reply = holds .reply }), omega (arith, paid .fits, rows-are), λ walked. rw (← old-is, old, made), rw words (known .1))

@@ -8,7 +8,8 @@ use native.Mathlib.Omega.{arith}
 use lib.ListN.{length, replicate}
 use Rattle.lists.specs.Part.{write, Outside}
 use Rattle.merge_theory.specs.Rule.{start}
-use Rattle.merge_theory.specs.Walk.{Result, finished, conflict, out, deep, Step, after, walk, check}
+use Rattle.merge_theory.specs.Steps.{State, Result, finished, conflict, out, deep, Step, after, stop}
+use Rattle.merge_theory.specs.Walk.{fresh, begin, walk, pass, passes, check}
 use Rattle.merge_theory.proofs.Theorems.{never-deep}
 use Rattle.tables.specs.Layout.{fragments, selections}
 use Rattle.tables.specs.Image.{countAt}
@@ -23,19 +24,19 @@ use Rattle.selection.proofs.StepLaws.{places, links-fit}
 use Rattle.selection.proofs.StandLaws.{classed-kept, in-front}
 use Rattle.selection.proofs.RefineLaws.{tells-go, tells-stop}
 
-reply-is : (s : List ℕ) (arena : Arena) (op : ℕ) (z : states.Walk) (r : Result) → Tells s arena op z r → (r ≡ deep → ⊥) → z .reply ≡ replyOf op r
-reply-is s arena op z (finished ls used) h shallow = h .reply
-reply-is s arena op z (conflict c a b used) h shallow = h
-reply-is s arena op z (out used) h shallow = h
-reply-is s arena op z deep h shallow = absurd (shallow refl)
+reply-is : (s : List ℕ) (arena : Arena) (op : ℕ) (z : states.Walk) (r : Result) → Tells s arena op z r → ((y : State) → r ≡ deep y → ⊥) → z .reply ≡ replyOf op r
+reply-is s arena op z (finished y) h shallow = h .reply
+reply-is s arena op z (conflict e y) h shallow = h
+reply-is s arena op z (out y) h shallow = h
+reply-is s arena op z (deep y) h shallow = absurd (shallow y refl)
 
 -- the second pass, where the first finished
 abbrev secondPass : List ℕ → ℕ → ℕ → Step
-secondPass image budget operation ls units = walk (document image) (passOf image false) budget (suc limitOfLinks) (operation ∷ []) [] units
+secondPass image budget operation y = walk (document image) (passOf image false) stop operation budget (suc limitOfLinks) (operation ∷ []) (fresh y)
 
 both-passes : (image : List ℕ) (budget work used operation : ℕ) → budget ≡ work
-    → after (walk (document image) (passOf image true) budget (suc limitOfLinks) (operation ∷ []) [] used) (secondPass image budget operation) ≡ check (document image) work used operation
-unfolding check documentBy
+    → after (walk (document image) (passOf image true) stop operation budget (suc limitOfLinks) (operation ∷ []) (begin used)) (secondPass image budget operation) ≡ check (document image) work used operation
+unfolding check passes pass documentBy
 both-passes image budget work used operation e = rw e
 
 -- the state at the start
@@ -87,14 +88,14 @@ module _ {image : List ℕ} {arena : Arena} {work budget operation used n : ℕ}
           beyond = λ k h. f .beyond k h ∙ outside .above k (omega (arith, is-count, regions .queue, regions .lasts, regions .heads, regions .links, regions .store));
         }
 
-    shaped : Tells s₂ arena operation z₁ (walk (document image) (passOf image true) budget (suc limitOfLinks) (operation ∷ []) [] used)
-    shaped = first .tells used site refl (can .row) refl
+    shaped : Tells s₂ arena operation z₁ (walk (document image) (passOf image true) stop operation budget (suc limitOfLinks) (operation ∷ []) (begin used))
+    shaped = first .tells (begin used) site refl (can .row) refl
 
-    whole : after (walk (document image) (passOf image true) budget (suc limitOfLinks) (operation ∷ []) [] used) (secondPass image budget operation) ≡ check (document image) work used operation
+    whole : after (walk (document image) (passOf image true) stop operation budget (suc limitOfLinks) (operation ∷ []) (begin used)) (secondPass image budget operation) ≡ check (document image) work used operation
     whole = both-passes image budget work used operation all-work
 
-    shallow : after (walk (document image) (passOf image true) budget (suc limitOfLinks) (operation ∷ []) [] used) (secondPass image budget operation) ≡ deep → ⊥
-    shallow e = never-deep (document image) (can .sound) work used operation start (sym whole ∙ e)
+    shallow : (y : State) → after (walk (document image) (passOf image true) stop operation budget (suc limitOfLinks) (operation ∷ []) (begin used)) (secondPass image budget operation) ≡ deep y → ⊥
+    shallow y e = never-deep (document image) (can .sound) work used operation start y (sym whole ∙ e)
 
     as-promised : {s′ : List ℕ} → Within image arena budget s s′ → Within image (arenaOf image work) work s s′
     as-promised {s′} w = subst (λ (a : Arena). Within image a work s s′) (is-arena ∙ ap (arenaOf image) all-work) (subst (λ (b : ℕ). Within image arena b s s′) all-work w)
@@ -114,7 +115,7 @@ module _ {image : List ℕ} {arena : Arena} {work budget operation used n : ℕ}
     long = next .long ∙ first .long ∙ long₁;
     replies = λ can.
         reply-is s₃ arena operation z₂ _
-        (tells-go s₂ s₃ arena operation z₁ z₂ _ (secondPass image budget operation) (shaped can) go (λ ls units h. parented can units h)) (shallow can) ∙ ap (replyOf operation) (whole can);
+        (tells-go s₂ s₃ arena operation z₁ z₂ _ (secondPass image budget operation) (shaped can) go (λ y h. parented can y h)) (shallow can) ∙ ap (replyOf operation) (whole can);
     frame = λ can.
         let w = within₂ can in
         let f = next .frame (site₂ can) (sym (first .same)) (can .row) in
@@ -124,8 +125,8 @@ module _ {image : List ℕ} {arena : Arena} {work budget operation used n : ℕ}
       site₂ : (can : Checkable image work operation used s) → Site image arena budget (z₁ .reply .operation) s₂ z₁
       site₂ can = subst (λ (op : ℕ). Site image arena budget op s₂ z₁) (sym (first .same)) (first .site (site can) refl (can .row) go)
 
-      parented : (can : Checkable image work operation used s) {ls : List (List ℕ)} (units : ℕ) → Holds s₂ arena operation z₁ ls units
-          → Tells s₃ arena operation z₂ (walk (document image) (passOf image false) budget (suc limitOfLinks) (operation ∷ []) [] units)
-      parented can units h =
-          subst (λ (op : ℕ). Tells s₃ arena op z₂ (walk (document image) (passOf image false) budget (suc limitOfLinks) (operation ∷ []) [] units)) (first .same)
-          (next .tells units (site₂ can) (sym (first .same)) (can .row) (h .reply ∙ ap (λ op. replyOf op (finished [] units)) (sym (first .same))))
+      parented : (can : Checkable image work operation used s) (y : State) → Holds s₂ arena operation z₁ y
+          → Tells s₃ arena operation z₂ (secondPass image budget operation y)
+      parented can y h =
+          subst (λ (op : ℕ). Tells s₃ arena op z₂ (walk (document image) (passOf image false) stop op budget (suc limitOfLinks) (operation ∷ []) (fresh y))) (first .same)
+          (next .tells y (site₂ can) (sym (first .same)) (can .row) (h .reply ∙ ap (λ op. replyOf op (finished y)) (sym (first .same))))

@@ -9,6 +9,7 @@ use lib.ListN.{length}
 use Rattle.lists.specs.Part.{Stores, Outside}
 use Rattle.merge_theory.specs.Lists.{filter}
 use Rattle.merge_theory.specs.Document.{Cause, numberOf}
+use Rattle.merge_theory.specs.Steps.{State, stop}
 use Rattle.merge_theory.specs.Walk.{against, compareFirst, setsBelow}
 use Rattle.tables.specs.Layout.{NONE}
 use Rattle.tables.specs.Columns.{selectionTarget, isEmptySet}
@@ -44,8 +45,8 @@ pub record ComparesSegment (image s : List ℕ) (arena : Arena) (z : states.Walk
   pub known : r .known ≡ z .known
   pub operation : r .reply .operation ≡ z .reply .operation
   pub tells : (l : List ℕ) → Grounded (document image) image s (arena .store) x l → Follows image s arena g x → x .start ≤ from
-      → (from < x .end → member (document image) g (rowIn s (arena .store) from) ≡ true) → (ls : List (List ℕ)) (used : ℕ) → Holds s arena (z .reply .operation) z ls used
-      → Tells s arena (z .reply .operation) r (against (passOf image isShape .clash) a (filter (member (document image) g) (onward x l from)) ls used)
+      → (from < x .end → member (document image) g (rowIn s (arena .store) from) ≡ true) → (y : State) → Holds s arena (z .reply .operation) z y
+      → Tells s arena (z .reply .operation) r (against stop (z .reply .operation) (passOf image isShape .clash) a (filter (member (document image) g) (onward x l from)) y)
 
 -- the first field of a part against each other
 pub record ComparesPart (image s : List ℕ) (arena : Arena) (z : states.Walk) (part : Part) (isShape : Bool) (r : states.Walk) : Type 0 where
@@ -53,8 +54,8 @@ pub record ComparesPart (image s : List ℕ) (arena : Arena) (z : states.Walk) (
   pub known : r .known ≡ z .known
   pub operation : r .reply .operation ≡ z .reply .operation
   pub tells : (l rows : List ℕ) → Grounded (document image) image s (arena .store) (part .list) l → Threaded image s arena isShape (part .list) → PartAt (document image) isShape s (arena .store) l part rows
-      → (ls : List (List ℕ)) (used : ℕ) → Holds s arena (z .reply .operation) z ls used
-      → Tells s arena (z .reply .operation) r (compareFirst (passOf image isShape .clash) rows ls used)
+      → (y : State) → Holds s arena (z .reply .operation) z y
+      → Tells s arena (z .reply .operation) r (compareFirst stop (z .reply .operation) (passOf image isShape .clash) rows y)
 
 -- ---- queueing
 

@@ -16,7 +16,9 @@ use Rattle.lists.specs.Part.{Stores}
 use Rattle.merge_theory.specs.Lists.{Every}
 use Rattle.merge_theory.specs.Document.{Document, numberOf, FieldAt, Sound}
 use Rattle.merge_theory.specs.Rule.{Reached}
-use Rattle.merge_theory.specs.Walk.{Result, finished, conflict, out, deep, Step, _then_, Pass, shapePass, parentPass, compareFirst, descend, setsBelow, walkParts, walk}
+use Rattle.merge_theory.specs.Steps.{Entry, entry, State, Result, finished, conflict, out, deep, Step, _then_, stop}
+use Rattle.merge_theory.specs.Steps as steps
+use Rattle.merge_theory.specs.Walk.{Pass, shapePass, parentPass, compareFirst, descend, setsBelow, noted, walkParts, walk}
 use Rattle.tables.specs.Layout.{selections}
 use Rattle.tables.specs.Image.{countAt}
 use Rattle.tables.specs.Good.{Good}
@@ -48,20 +50,24 @@ passOf image false = parentPass (document image)
 -- ---- what a state says
 
 abbrev pub replyOf : ℕ → Result → Reply
-replyOf op (finished ls used) = record { kind = 0; operation = op; a = 0; b = 0; used = used }
-replyOf op (conflict c a b used) = record { kind = numberOf c; operation = op; a = a; b = b; used = used }
-replyOf op (out used) = record { kind = 17; operation = op; a = 0; b = 0; used = used }
-replyOf op deep = record { kind = 0; operation = op; a = 0; b = 0; used = 0 }
+replyOf op (finished y) = record { kind = 0; operation = op; a = 0; b = 0; used = y .used }
+replyOf op (conflict (entry s c a b) y) = record { kind = numberOf c; operation = op; a = a; b = b; used = y .used }
+replyOf op (out y) = record { kind = 17; operation = op; a = 0; b = 0; used = y .used }
+replyOf op (deep y) = record { kind = 0; operation = op; a = 0; b = 0; used = 0 }
 
-pub record Holds (s : List ℕ) (arena : Arena) (op : ℕ) (z : states.Walk) (ls : List (List ℕ)) (used : ℕ) : Type 0 where
-  pub known : Known arena s (z .known) ls
-  pub reply : z .reply ≡ replyOf op (finished ls used)
+pub record Holds (s : List ℕ) (arena : Arena) (op : ℕ) (z : states.Walk) (y : State) : Type 0 where
+  pub known : Known arena s (z .known) (y .known)
+  pub reply : z .reply ≡ replyOf op (finished y)
 
 abbrev pub Tells : List ℕ → Arena → ℕ → states.Walk → Result → Type 0
-Tells s arena op z (finished ls used) = Holds s arena op z ls used
-Tells s arena op z (conflict c a b used) = z .reply ≡ replyOf op (conflict c a b used)
-Tells s arena op z (out used) = z .reply ≡ replyOf op (out used)
-Tells s arena op z deep = Unit {0}
+Tells s arena op z (finished y) = Holds s arena op z y
+Tells s arena op z (conflict e y) = z .reply ≡ replyOf op (conflict e y)
+Tells s arena op z (out y) = z .reply ≡ replyOf op (out y)
+Tells s arena op z (deep y) = Unit {0}
+
+-- a list is paid for, and noted as met
+abbrev pub paidFor : List ℕ → State → State
+paidFor l y = noted l (steps.charged (suc (length l)) y)
 
 -- ---- a charge, and a list that is met
 
@@ -151,7 +157,7 @@ module _ (image : List ℕ) (arena : Arena) (work op : ℕ) where
     pub grows : z .known ≤ z′ .known
 
   pub record Refines (step : Step) (s s′ : List ℕ) (z z′ : states.Walk) : Type 0 where
-    pub tells : (ls : List (List ℕ)) (used : ℕ) → Holds s arena op z ls used → Tells s′ arena op z′ (step ls used)
+    pub tells : (y : State) → Holds s arena op z y → Tells s′ arena op z′ (step y)
     pub site : z′ .reply .kind ≡ 0 → Site s′ z′
     pub kept : Kept s s′ z z′
 
@@ -159,15 +165,15 @@ module _ (image : List ℕ) (arena : Arena) (work op : ℕ) where
 
   -- a list's parts, with levels to go: `walk` after its list is noted
   unfoldable pub walkList : Pass → ℕ → List ℕ → Step
-  walkList P zero l ls used = deep
-  walkList P (suc levels) l ls used = walkParts (document image) P (walk (document image) P work levels) (P .parts l) ls used
+  walkList P zero l y = deep y
+  walkList P (suc levels) l y = walkParts (document image) P stop op (walk (document image) P stop op work levels) (P .parts l) y
 
   -- merged sets, if there are any
   abbrev pub lower : Pass → ℕ → List ℕ → Step
-  lower P levels sets = descend (walk (document image) P work levels) sets
+  lower P levels sets = descend (walk (document image) P stop op work levels) sets
 
   abbrev pub onePart : Pass → ℕ → List ℕ → Step
-  onePart P levels rows = compareFirst (P .clash) rows then lower P levels (setsBelow (document image) rows)
+  onePart P levels rows = compareFirst stop op (P .clash) rows then lower P levels (setsBelow (document image) rows)
 
   -- a list that was entered: it stands in the store, and the step goes on as its walk
   pub record Entered (isShape : Bool) (step : ℕ → Step) (s s′ : List ℕ) (z : states.Walk) (m : Met) : Type 0 where
@@ -178,10 +184,10 @@ module _ (image : List ℕ) (arena : Arena) (work op : ℕ) where
     pub stored : m .list .end ≤ m .walk .known
     pub site : Site s′ (m .walk)
     pub kept : Kept s s′ z (m .walk)
-    pub goes : (ls : List (List ℕ)) (used : ℕ) → Holds s arena op z ls used
-        → Holds s′ arena op (m .walk) (ls ++ list ∷ []) (used + suc (length list))
-    pub same : (levels : ℕ) (ls : List (List ℕ)) (used : ℕ) → Holds s arena op z ls used
-        → step levels ls used ≡ walkList (passOf image isShape) levels list (ls ++ list ∷ []) (used + suc (length list))
+    pub goes : (y : State) → Holds s arena op z y
+        → Holds s′ arena op (m .walk) (paidFor list y)
+    pub same : (levels : ℕ) (y : State) → Holds s arena op z y → (s″ : List ℕ) (z″ : states.Walk)
+        → Tells s″ arena op z″ (walkList (passOf image isShape) levels list (paidFor list y)) → Tells s″ arena op z″ (step levels y)
 
   -- what has been met: the step is done, or a list was entered
   pub record Meets (isShape : Bool) (step : ℕ → Step) (s s′ : List ℕ) (z : states.Walk) (m : Met) : Type 0 where
@@ -201,7 +207,7 @@ pub record MeetsSets (image : List ℕ) (arena : Arena) (work : ℕ) (s s′ : L
   pub going : m .deeper ≡ true → m .walk .reply .kind ≡ 0
   pub ample : m .walk .reply .kind ≡ 0 → Ample work 0 (m .walk)
   pub meets : (sets : List ℕ) → Site image arena work (z .reply .operation) s z → Queued image arena work (z .reply .operation) s x sets
-      → Meets image arena work (z .reply .operation) isShape (λ levels. walk (document image) (passOf image isShape) work levels sets) s s′ z m
+      → Meets image arena work (z .reply .operation) isShape (λ levels. walk (document image) (passOf image isShape) stop (z .reply .operation) work levels sets) s s′ z m
 
 -- one part: compared, and its sets met
 pub record MeetsPart (image : List ℕ) (arena : Arena) (work : ℕ) (s s′ : List ℕ) (z : states.Walk) (part : Part) (isShape : Bool) (m : Met) : Type 0 where

@@ -6,7 +6,8 @@ use Prim.Native.Nat.{ℕ, suc, _+_, _≤_, _<_}
 use lib.ListN.{length, getD}
 use Rattle.merge_theory.specs.Document.{Sound}
 use Rattle.merge_theory.specs.Rule.{Reached}
-use Rattle.merge_theory.specs.Walk.{finished, walk, check}
+use Rattle.merge_theory.specs.Steps.{State, finished, stop}
+use Rattle.merge_theory.specs.Walk.{fresh, walk, check}
 use Rattle.tables.specs.Layout.{operations, selections}
 use Rattle.tables.specs.Image.{countAt}
 use Rattle.tables.specs.Good.{Good}
@@ -35,7 +36,7 @@ pub record MeetsOperation (image : List ℕ) (arena : Arena) (work operation : �
   pub going : m .deeper ≡ true → m .walk .reply .kind ≡ 0
   pub ample : m .walk .reply .kind ≡ 0 → Ample work 0 (m .walk)
   pub meets : Site image arena work (z .reply .operation) s z → operation ≡ z .reply .operation → operation < countAt image operations
-      → Meets image arena work (z .reply .operation) isShape (λ levels. walk (document image) (passOf image isShape) work levels (operation ∷ [])) s s′ (forgotten z) m
+      → Meets image arena work (z .reply .operation) isShape (λ levels. walk (document image) (passOf image isShape) stop (z .reply .operation) work levels (operation ∷ [])) s s′ (forgotten z) m
 
 -- a pass over the operation
 pub record Runs (image : List ℕ) (arena : Arena) (work operation : ℕ) (s s′ : List ℕ) (z : states.Walk) (isShape : Bool) (z′ : states.Walk) : Type 0 where
@@ -45,9 +46,9 @@ pub record Runs (image : List ℕ) (arena : Arena) (work operation : ℕ) (s s�
   pub site : Site image arena work (z .reply .operation) s z → operation ≡ z .reply .operation → operation < countAt image operations → z′ .reply .kind ≡ 0
       → Site image arena work (z .reply .operation) s′ z′
   pub frame : Site image arena work (z .reply .operation) s z → operation ≡ z .reply .operation → operation < countAt image operations → Within image arena work s s′
-  pub tells : (used : ℕ) → Site image arena work (z .reply .operation) s z → operation ≡ z .reply .operation → operation < countAt image operations
-      → z .reply ≡ replyOf (z .reply .operation) (finished [] used)
-      → Tells s′ arena (z .reply .operation) z′ (walk (document image) (passOf image isShape) work (suc limitOfLinks) (operation ∷ []) [] used)
+  pub tells : (y : State) → Site image arena work (z .reply .operation) s z → operation ≡ z .reply .operation → operation < countAt image operations
+      → z .reply ≡ replyOf (z .reply .operation) (finished y)
+      → Tells s′ arena (z .reply .operation) z′ (walk (document image) (passOf image isShape) stop (z .reply .operation) work (suc limitOfLinks) (operation ∷ []) (fresh y))
 
 -- what the check of an operation may rely on, where its reply is said
 pub record Checkable (image : List ℕ) (work operation used : ℕ) (s : List ℕ) : Type 0 where
