@@ -9,8 +9,10 @@ use borrow.Author.Tests.{leb-true, leb-false}
 use lib.Dec.{leb}
 use Rattle.lists.specs.First.{expect, _▷_}
 use Rattle.merge_theory.specs.Rule.{start}
-use Rattle.merge_theory.specs.Walk.{Result, finished, conflict, out, deep, check}
-use Rattle.merge_theory.proofs.Theorems.{never-deep}
+use Rattle.merge_theory.specs.Steps.{Entry, State, Result, finished, conflict, out, deep}
+use Rattle.merge_theory.specs.Walk.{check}
+use Rattle.merge_theory.proofs.Conflict.{NamedEntry, named-entry}
+use Rattle.merge_theory.proofs.Theorems.{conflict-own, never-deep}
 use Rattle.tables.specs.Layout.{operations}
 use Rattle.tables.specs.Image.{countAt}
 use Rattle.tables.specs.Header.{Refusal, headerFault}
@@ -30,9 +32,9 @@ module _ {image : List ℕ} where
   sane-good sane = rows-good (sane .header) (sane .rows)
 
   -- the levels of the walk suffice
-  pub never-too-deep : (work used i : ℕ) → Sane image → i < countAt image operations → check (documentOf image) work used i ≡ deep → ⊥
-  never-too-deep work used i sane own e =
-      never-deep (documentOf image) (operation-sound (sane-good sane) i own (sane .fragments)) work used i start e
+  pub never-too-deep : (work used i : ℕ) → Sane image → i < countAt image operations → (y : State) → check (documentOf image) work used i ≡ deep y → ⊥
+  never-too-deep work used i sane own y e =
+      never-deep (documentOf image) (operation-sound (sane-good sane) i own (sane .fragments)) work used i start y e
 
 module _ (image : List ℕ) (work long : ℕ) where
   -- from operation i on
@@ -51,12 +53,17 @@ module _ (image : List ℕ) (work long : ℕ) where
       Later : Type 0
       Later = (u : ℕ) → Ran image work (suc i) u → Given image work long (operationsFrom image work left (suc i) u)
 
+      -- a conflict is of its own operation
+      by-entry : {f : Entry} {y : State} → NamedEntry (documentOf image) i f → check (documentOf image) work used i ≡ conflict f y → usageFault image i ≡ none
+          → Given image work long (ofWalk i (conflict f y) (operationsFrom image work left (suc i)))
+      by-entry (named-entry h) e none-wrong = a-conflict sane enough ran own none-wrong e
+
       by-result : (r : Result) → check (documentOf image) work used i ≡ r → usageFault image i ≡ none → Later
           → Given image work long (ofWalk i r (operationsFrom image work left (suc i)))
-      by-result (finished known u) e none-wrong later = later u (ran-more ran none-wrong e)
-      by-result (conflict c a b u) e none-wrong later = a-conflict sane enough ran own none-wrong e
-      by-result (out u) e none-wrong later = budget-spent sane enough ran own none-wrong e
-      by-result deep e none-wrong later = absurd (never-too-deep work used i sane own e)
+      by-result (finished y) e none-wrong later = later (y .used) (ran-more ran none-wrong e)
+      by-result (conflict f y) e none-wrong later = by-entry (conflict-own (documentOf image) work used i f y e) e none-wrong
+      by-result (out y) e none-wrong later = budget-spent sane enough ran own none-wrong e
+      by-result (deep y) e none-wrong later = absurd (never-too-deep work used i sane own y e)
 
       by-variables : (o : Option Shown) → usageFault image i ≡ o → Later
           → Given image work long (orElse (ofVariables i used o) (ofWalk i (check (documentOf image) work used i) (operationsFrom image work left (suc i))))

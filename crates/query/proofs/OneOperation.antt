@@ -7,7 +7,8 @@ use native.Mathlib.Omega.{arith}
 use Rattle.merge_theory.specs.Document.{Cause, shape, name, arguments, numberOf}
 use Rattle.merge_theory.specs.Rule.{start}
 use Rattle.merge_theory.specs.Units.{WithinBudget}
-use Rattle.merge_theory.specs.Walk.{Result, finished, conflict, out, deep, check}
+use Rattle.merge_theory.specs.Steps.{entry, State, Result, finished, conflict, out, deep}
+use Rattle.merge_theory.specs.Walk.{check}
 use Rattle.merge_theory.proofs.Theorems.{never-deep, within-budget}
 use Rattle.tables.specs.Layout.{operations}
 use Rattle.tables.specs.Image.{countAt}
@@ -30,8 +31,8 @@ pub usage-10-13 : (image : List ℕ) (i : ℕ) {r : Shown} → usageFault image 
 usage-10-13 image i e = of-some (λ (r : Shown). (10 ≤ r .kind) × (r .kind ≤ 13)) _ e (usage-kind image i)
 
 module _ {image : List ℕ} (good : Good image) (no-fault : fragment.fragmentsFault image ≡ none) (work i : ℕ) (own : i < countAt image operations) where
-  not-deep : (used : ℕ) → check (documentOf image) work used i ≡ deep → ⊥
-  not-deep used e = never-deep (documentOf image) (operation-sound good i own no-fault) work used i start e
+  not-deep : (used : ℕ) (y : State) → check (documentOf image) work used i ≡ deep y → ⊥
+  not-deep used y e = never-deep (documentOf image) (operation-sound good i own no-fault) work used i start y e
 
   -- an answer other than 0 is the reply
   pub stops : (left used : ℕ) → (operationReply image work i used .kind ≡ 0 → ⊥) → operationReply image work i used ≡ operationsFrom image work (suc left) i used
@@ -39,10 +40,10 @@ module _ {image : List ℕ} (good : Good image) (no-fault : fragment.fragmentsFa
   stops left used wrong = by-variables (usageFault image i) wrong
     where
       by-walk : (r : Result) → (replyOf i r .kind ≡ 0 → ⊥) → replyOf i r ≡ ofWalk i r (operationsFrom image work left (suc i))
-      by-walk (finished known u) wrong = absurd (wrong refl)
-      by-walk (conflict c a b u) wrong = refl
-      by-walk (out u) wrong = refl
-      by-walk deep wrong = absurd (wrong refl)
+      by-walk (finished y) wrong = absurd (wrong refl)
+      by-walk (conflict (entry s c a b) y) wrong = refl
+      by-walk (out y) wrong = refl
+      by-walk (deep y) wrong = absurd (wrong refl)
 
       by-variables : (o : Option Shown) → (orElse (ofVariables i used o) (replyOf i (check (documentOf image) work used i)) .kind ≡ 0 → ⊥)
           → orElse (ofVariables i used o) (replyOf i (check (documentOf image) work used i))
@@ -58,10 +59,10 @@ module _ {image : List ℕ} (good : Good image) (no-fault : fragment.fragmentsFa
     where
       by-walk : (r : Result) → check (documentOf image) work used i ≡ r → replyOf i r .kind ≡ 0
           → ofWalk i r (operationsFrom image work left (suc i)) ≡ operationsFrom image work left (suc i) (replyOf i r .used)
-      by-walk (finished known u) e passes = refl
-      by-walk (conflict c a b u) e passes = absurd (omega (arith, cause-number c))
-      by-walk (out u) e passes = absurd (omega arith)
-      by-walk deep e passes = absurd (not-deep used e)
+      by-walk (finished y) e passes = refl
+      by-walk (conflict (entry s c a b) y) e passes = absurd (omega (arith, cause-number c))
+      by-walk (out y) e passes = absurd (omega arith)
+      by-walk (deep y) e passes = absurd (not-deep used y e)
 
       by-variables : (o : Option Shown) → usageFault image i ≡ o → orElse (ofVariables i used o) (replyOf i (check (documentOf image) work used i)) .kind ≡ 0
           → orElse (ofVariables i used o) (ofWalk i (check (documentOf image) work used i) (operationsFrom image work left (suc i)))
@@ -75,10 +76,10 @@ module _ {image : List ℕ} (good : Good image) (no-fault : fragment.fragmentsFa
   used-within used few = by-variables (usageFault image i)
     where
       by-walk : (r : Result) → WithinBudget work r → replyOf i r .used ≤ work
-      by-walk (finished known u) h = h
-      by-walk (conflict c a b u) h = h
-      by-walk (out u) h = h
-      by-walk deep h = omega arith
+      by-walk (finished y) h = h
+      by-walk (conflict (entry s c a b) y) h = h
+      by-walk (out y) h = h
+      by-walk (deep y) h = omega arith
 
       by-variables : (o : Option Shown) → orElse (ofVariables i used o) (replyOf i (check (documentOf image) work used i)) .used ≤ work
       by-variables none = by-walk (check (documentOf image) work used i) (within-budget (documentOf image) work used i few)

@@ -20,7 +20,8 @@ use Rattle.lists.specs.First.{expect, _▷_}
 use Rattle.merge_theory.specs.Document.{Cause, shape, name, arguments, numberOf}
 use Rattle.merge_theory.specs.Rule.{start, RuleHolds}
 use Rattle.merge_theory.specs.TrueConflict.{TrueConflict}
-use Rattle.merge_theory.specs.Walk.{Result, finished, conflict, out, IsOut, check}
+use Rattle.merge_theory.specs.Steps.{entry, State, Result, finished, conflict, out, IsOut}
+use Rattle.merge_theory.specs.Walk.{check}
 use Rattle.merge_theory.proofs.Theorems.{conflict-true, conflict-breaks, finished-holds, larger-budget}
 use Rattle.tables.specs.Layout.{operations}
 use Rattle.tables.specs.Image.{countAt}
@@ -78,8 +79,8 @@ conflict-of image work long r (short-scratch h w s) c k = absurd (omega (arith, 
 conflict-of image work long r (bad-row h w e) c k = absurd (omega (arith, row-4 image e, cause-number c))
 conflict-of image work long r (bad-fragments h w o e) c k = absurd (omega (arith, fragments-5-9 image e, cause-number c))
 conflict-of image work long r (bad-variables {i} s w n o e) c k = absurd (omega (arith, usage-10-13 image i e, cause-number c))
-conflict-of image work long r (a-conflict {i} {used} {a} {b} {used′} {c = d} s w n o v e) c k =
-    subst (λ (x : Cause). TrueConflict (documentOf image) i x a b) (one-cause d c k) (conflict-true (documentOf image) work used i d a b used′ e)
+conflict-of image work long r (a-conflict {i} {used} {a} {b} {c = d} {y = y} s w n o v e) c k =
+    subst (λ (x : Cause). TrueConflict (documentOf image) i x a b) (one-cause d c k) (conflict-true (documentOf image) work used i d a b y e)
 conflict-of image work long r (budget-spent s w n o v e) c k = absurd (omega (arith, cause-number c))
 conflict-of image work long r (passes s w n) c k = absurd (omega (arith, cause-number c))
 
@@ -104,10 +105,10 @@ AllMerge image = (i : ℕ) → i < countAt image operations → RuleHolds (docum
 ran-holds : (image : List ℕ) (work i used : ℕ) → Sane image → i ≤ countAt image operations → Ran image work i used
     → (j : ℕ) → j < i → RuleHolds (documentOf image) j
 ran-holds image work zero used sane few ran j less = absurd (omega arith)
-ran-holds image work (suc i) used sane few (ran-more {used = before} {known = known} ran v e) j less =
+ran-holds image work (suc i) used sane few (ran-more {used = before} {y = y} ran v e) j less =
     elim (ℕ-discrete j i) [
       | yes same ↦
-          rw same (finished-holds (documentOf image) (operation-sound (sane-good sane) i few (sane .fragments)) work before i start known used e)
+          rw same (finished-holds (documentOf image) (operation-sound (sane-good sane) i few (sane .fragments)) work before i start y e)
       | no other ↦ ran-holds image work i before sane (omega arith) ran j (omega arith)
     ]
 
@@ -121,9 +122,9 @@ exactly image work long r clear (short-scratch h w s) covered = absurd (clear .e
 exactly image work long r clear (bad-row h w e) covered = not-none (clear .sane .rows) e
 exactly image work long r clear (bad-fragments h w o e) covered = not-none (clear .sane .fragments) e
 exactly image work long r clear (bad-variables {i} s w n o e) covered = not-none (clear .variables i o) e
-exactly image work long r clear (a-conflict {i} {used} {a} {b} {used′} {c = d} s w n o v e) covered = (
+exactly image work long r clear (a-conflict {i} {used} {a} {b} {c = d} {y = y} s w n o v e) covered = (
   λ k. absurd (omega (arith, cause-number d)),
-  λ rule. absurd (rule i o i start (conflict-breaks (documentOf image) work used i d a b used′ e)),
+  λ rule. absurd (rule i o i start (conflict-breaks (documentOf image) work used i d a b y e)),
 )
 exactly image work long r clear (budget-spent s w n o v e) covered = absurd (covered refl)
 exactly image work long r clear (passes {used} s w n) covered = (
@@ -142,10 +143,10 @@ passes-exactly image work long clear covered = exactly image work long (reply im
 -- operations that ran with a budget run with a larger one, and use the same
 ran-more-budget : (image : List ℕ) (less more : ℕ) → less ≤ more → (i used : ℕ) → Ran image less i used → Ran image more i used
 ran-more-budget image less more le zero used ran-none = ran-none
-ran-more-budget image less more le (suc i) used (ran-more {used = before} {known = known} ran v e) =
+ran-more-budget image less more le (suc i) used (ran-more {used = before} {y = y} ran v e) =
     ran-more (ran-more-budget image less more le i before ran) v (larger-budget (documentOf image) less more before i le (not-out e) ∙ e)
   where
-    not-out : {r : Result} → r ≡ finished known used → IsOut r → ⊥
+    not-out : {r : Result} → r ≡ finished y → IsOut r → ⊥
     not-out e = rw e (λ h. h)
 
 same-walk : (image : List ℕ) (less more used i : ℕ) {r : Result} → less ≤ more → check (documentOf image) less used i ≡ r → (IsOut r → ⊥)
@@ -185,33 +186,33 @@ module _ (image : List ℕ) (work long : ℕ) where
   passed-tables sane = rw (sane .rows, sane .fragments)
 
   -- one operation: it passes, its variables are wrong, or its walk ends
-  one-passes : (left i used used′ : ℕ) (known : List (List ℕ)) → usageFault image i ≡ none → check (documentOf image) work used i ≡ finished known used′
-      → operationsFrom image work (suc left) i used ≡ operationsFrom image work left (suc i) used′
+  one-passes : (left i used : ℕ) (y : State) → usageFault image i ≡ none → check (documentOf image) work used i ≡ finished y
+      → operationsFrom image work (suc left) i used ≡ operationsFrom image work left (suc i) (y .used)
   unfolding operationsFrom
-  one-passes left i used used′ known v e = rw (v, e)
+  one-passes left i used y v e = rw (v, e)
 
   variables-end : (left i used : ℕ) (r : Shown) → usageFault image i ≡ some r → operationsFrom image work (suc left) i used ≡ answer (r .kind) i (r .a) 0 used
   unfolding operationsFrom
   variables-end left i used r e = rw e
 
-  conflict-ends : (left i used : ℕ) (c : Cause) (a b used′ : ℕ) → usageFault image i ≡ none → check (documentOf image) work used i ≡ conflict c a b used′
-      → operationsFrom image work (suc left) i used ≡ answer (numberOf c) i a b used′
+  conflict-ends : (left i used : ℕ) (c : Cause) (a b : ℕ) (y : State) → usageFault image i ≡ none → check (documentOf image) work used i ≡ conflict (entry i c a b) y
+      → operationsFrom image work (suc left) i used ≡ answer (numberOf c) i a b (y .used)
   unfolding operationsFrom
-  conflict-ends left i used c a b used′ v e = rw (v, e)
+  conflict-ends left i used c a b y v e = rw (v, e)
 
-  budget-ends : (left i used used′ : ℕ) → usageFault image i ≡ none → check (documentOf image) work used i ≡ out used′
-      → operationsFrom image work (suc left) i used ≡ answer 17 i 0 0 used′
+  budget-ends : (left i used : ℕ) (y : State) → usageFault image i ≡ none → check (documentOf image) work used i ≡ out y
+      → operationsFrom image work (suc left) i used ≡ answer 17 i 0 0 (y .used)
   unfolding operationsFrom
-  budget-ends left i used used′ v e = rw (v, e)
+  budget-ends left i used y v e = rw (v, e)
 
   -- where the operations before i ran, the reply is what comes from i on
   from-ran : (i used : ℕ) → i ≤ countAt image operations → Ran image work i used
       → operationsFrom image work (countAt image operations) 0 0 ≡ operationsFrom image work (countAt image operations - i) i used
   from-ran zero used few ran-none = ap (λ (k : ℕ). operationsFrom image work k 0 0) (omega arith)
-  from-ran (suc i) used few (ran-more {used = before} {known = known} ran v e) =
+  from-ran (suc i) used few (ran-more {used = before} {y = y} ran v e) =
       let step : countAt image operations - i ≡ suc (countAt image operations - suc i) = omega arith in
       from-ran i before (omega arith) ran ∙ ap (λ (k : ℕ). operationsFrom image work k i before) step
-      ∙ one-passes (countAt image operations - suc i) i before used known v e
+      ∙ one-passes (countAt image operations - suc i) i before y v e
 
   refused-is : (r : Reply) → refused image work long ≡ some r → r ≡ reply image work long
   unfolding reply
@@ -264,8 +265,8 @@ module _ (image : List ℕ) (work long : ℕ) where
   given-once r (bad-row {r = x} h w e) = faulty-is _ (passed-sizes w h) (rows-faulty x e)
   given-once r (bad-fragments {r = x} h w o e) = faulty-is _ (passed-sizes w h) (fragments-faulty x o e)
   given-once r (bad-variables {i} {used} {r = x} s w n o e) = walked-is s w i used o n _ (λ left. variables-end left i used x e)
-  given-once r (a-conflict {i} {used} {a} {b} {used′} {c = d} s w n o v e) = walked-is s w i used o n _ (λ left. conflict-ends left i used d a b used′ v e)
-  given-once r (budget-spent {i} {used} {used′} s w n o v e) = walked-is s w i used o n _ (λ left. budget-ends left i used used′ v e)
+  given-once r (a-conflict {i} {used} {a} {b} {c = d} {y = y} s w n o v e) = walked-is s w i used o n _ (λ left. conflict-ends left i used d a b y v e)
+  given-once r (budget-spent {i} {used} {y = y} s w n o v e) = walked-is s w i used o n _ (λ left. budget-ends left i used y v e)
   given-once r (passes {used} s w n) = passed-is s w used n
 
 -- A larger budget, up to the limit and with scratch to match, changes no answer other than 3 and 17.

@@ -4,7 +4,8 @@ use mathlib.Core.Path.{_≡_}
 use mathlib.Core.List.{List}
 use mathlib.Core.Option.{none, some}
 use Rattle.merge_theory.specs.Document.{Cause, numberOf}
-use Rattle.merge_theory.specs.Walk.{finished, conflict, out, check}
+use Rattle.merge_theory.specs.Steps.{entry, State, finished, conflict, out}
+use Rattle.merge_theory.specs.Walk.{check}
 use Rattle.tables.specs.Layout.{operations}
 use Rattle.tables.specs.Image.{countAt}
 use Rattle.tables.specs.Header.{Refusal, headerFault}
@@ -26,8 +27,8 @@ module _ (image : List ℕ) where
     -- the operations before i pass, and have used so many units
     pub data Ran : (i used : ℕ) → Type 0 where
       ran-none : Ran 0 0
-      ran-more : {i used used′ : ℕ} {known : List (List ℕ)} → Ran i used → usageFault image i ≡ none
-          → check (documentOf image) work used i ≡ finished known used′ → Ran (suc i) used′
+      ran-more : {i used : ℕ} {y : State} → Ran i used → usageFault image i ≡ none
+          → check (documentOf image) work used i ≡ finished y → Ran (suc i) (y .used)
 
     -- the budget and the scratch, of which so many words are lent
     module _ (long : ℕ) where
@@ -44,8 +45,8 @@ module _ (image : List ℕ) where
             → Given (answer (r .kind) (r .operation) (r .a) 0 0)
         bad-variables : {i used : ℕ} {r : Shown} → Sane → Enough → Ran i used → i < countAt image operations → usageFault image i ≡ some r
             → Given (answer (r .kind) i (r .a) 0 used)
-        a-conflict : {i used a b used′ : ℕ} {c : Cause} → Sane → Enough → Ran i used → i < countAt image operations → usageFault image i ≡ none
-            → check (documentOf image) work used i ≡ conflict c a b used′ → Given (answer (numberOf c) i a b used′)
-        budget-spent : {i used used′ : ℕ} → Sane → Enough → Ran i used → i < countAt image operations → usageFault image i ≡ none
-            → check (documentOf image) work used i ≡ out used′ → Given (answer 17 i 0 0 used′)
+        a-conflict : {i used a b : ℕ} {c : Cause} {y : State} → Sane → Enough → Ran i used → i < countAt image operations → usageFault image i ≡ none
+            → check (documentOf image) work used i ≡ conflict (entry i c a b) y → Given (answer (numberOf c) i a b (y .used))
+        budget-spent : {i used : ℕ} {y : State} → Sane → Enough → Ran i used → i < countAt image operations → usageFault image i ≡ none
+            → check (documentOf image) work used i ≡ out y → Given (answer 17 i 0 0 (y .used))
         passes : {used : ℕ} → Sane → Enough → Ran (countAt image operations) used → Given (answer 0 0 0 0 used)

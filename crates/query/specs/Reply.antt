@@ -7,7 +7,8 @@ use lib.Dec.{leb}
 use lib.ListN.{length, drop, replicate}
 use Rattle.lists.specs.First.{expect, _▷_}
 use Rattle.merge_theory.specs.Document.{Document, numberOf}
-use Rattle.merge_theory.specs.Walk.{Result, finished, conflict, out, deep, check}
+use Rattle.merge_theory.specs.Steps.{entry, Result, finished, conflict, out, deep}
+use Rattle.merge_theory.specs.Walk.{check}
 use Rattle.tables.specs.Layout.{operations}
 use Rattle.tables.specs.Image.{countAt}
 use Rattle.tables.specs.Header.{Refusal, headerFault}
@@ -46,11 +47,11 @@ ofVariables i used (some r) = some (answer (r .kind) i (r .a) 0 used)
 
 -- 14 to 17, of operation i; else the later operations go on from what is used by then
 abbrev pub ofWalk : (i : ℕ) → Result → (ℕ → Reply) → Reply
-ofWalk i (finished known used) later = later used
-ofWalk i (conflict cause a b used) later = answer (numberOf cause) i a b used
-ofWalk i (out used) later = answer 17 i 0 0 used
+ofWalk i (finished y) later = later (y .used)
+ofWalk i (conflict (entry s cause a b) y) later = answer (numberOf cause) i a b (y .used)
+ofWalk i (out y) later = answer 17 i 0 0 (y .used)
 -- never: the levels suffice
-ofWalk i deep later = answer 0 i 0 0 0
+ofWalk i (deep y) later = answer 0 i 0 0 0
 
 abbrev pub orElse : Option Reply → Reply → Reply
 orElse none later = later
