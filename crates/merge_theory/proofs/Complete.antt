@@ -2,7 +2,7 @@
 use mathlib.Core.Path.{refl}
 use mathlib.Core.Logic.{_⊎_, inl, inr, ⊎-elim}
 use mathlib.Core.List.{List, [], _∷_}
-use Prim.Native.Nat.{ℕ, suc}
+use Prim.Native.Nat.{ℕ}
 use lib.Dec.{T-not}
 use Rattle.merge_theory.specs.Lists.{_∈_, Every}
 use Rattle.merge_theory.specs.Document.{Document, isField, IsField, NoField, setOf, Sound, FieldAt}
@@ -22,14 +22,14 @@ use Rattle.merge_theory.proofs.Clean.{PairFails, clashing, below-fails,
 -- ---- both passes
 
 -- a near pair of the merged sets fails in a pass
-data FailsIn (D : Document) (P : Pass) (Near : ℕ → ℕ → Type 0) (sets : List ℕ) : Type 0 where
+pub data FailsIn (D : Document) (P : Pass) (Near : ℕ → ℕ → Type 0) (sets : List ℕ) : Type 0 where
   fails-in : {a b : ℕ} → FieldIn D sets a → FieldIn D sets b → Near a b → PairFails D P Near a b → FailsIn D P Near sets
 
 module _ (D : Document) {At : ℕ → Type 0} (S : Sound D At) where
-  abbrev ShapePair : ℕ → ℕ → Type 0
+  abbrev pub ShapePair : ℕ → ℕ → Type 0
   ShapePair = PairFails D (shapePass D) (SameResponse D)
 
-  shape-pair : {a b : ℕ} → ShapeFails D a b → ShapePair a b
+  pub shape-pair : {a b : ℕ} → ShapeFails D a b → ShapePair a b
   shape-pair {a} {b} (types-disagree t) = clashing (λ s. T-not (D .typesAgree a b) t (silent-types D a b s))
   shape-pair (subshapes-fail i j e bad) = below-fails i j e (shape-pair bad)
 
@@ -47,7 +47,7 @@ module _ (D : Document) {At : ℕ → Type 0} (S : Sound D At) where
       up (inl (fails-in k l near h)) = inl (fails-in i j e (below-fails k l near h))
       up (inr (fails-in k l near h)) = inr (fails-in i j (e, o) (below-fails k l near h))
 
-  quiet-holds : (P : Pass) (Near : ℕ → ℕ → Type 0) (L : PassLaws D P Near) (E : Settles (FieldAt D At) P) (sets : List ℕ) → Every At sets
+  pub quiet-holds : (P : Pass) (Near : ℕ → ℕ → Type 0) (L : PassLaws D P Near) (E : Settles (FieldAt D At) P) (sets : List ℕ) → Every At sets
       → Quiet D S P Near L E (expand D sets) → ¬ FailsIn D P Near sets
   quiet-holds P Near L E sets at quiet (fails-in {a = a} {b = b} i j near bad) =
       quiet-clean D S P Near L E (expand D sets) (expand-at D S sets at) quiet a b (expand-complete D S sets at i) (expand-complete D S sets at j) near bad
@@ -61,10 +61,10 @@ module _ (D : Document) {At : ℕ → Type 0} (S : Sound D At) where
       (quiet-holds (parentPass D) (SameLevel D) (parent-laws D) (parent-settles D S) (s ∷ []) (only At at) parents) (split bad)
 
   -- a check stops at a conflict, so that it leaves none behind
-  abbrev NoTrace : Trace
+  abbrev pub NoTrace : Trace
   NoTrace e entries = ⊥
 
-  stop-leaves : Leaves stop NoTrace
+  pub stop-leaves : Leaves stop NoTrace
   stop-leaves e z = tt
 
   pub check-clean : (budget used s : ℕ) → At s → Meets (λ z. ¬ MergeFails D (s ∷ [])) Shallow (check D budget used s)

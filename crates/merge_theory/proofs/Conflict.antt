@@ -43,22 +43,23 @@ module _ (At : Entry → Fact) (s : ℕ) (clash : ℕ → ℕ → Option Cause) 
       by-outcome none names go = go refl
       by-outcome (some c) names go = λ z. names c refl z
 
-pass-names : (D : Document) (P : Pass) (s budget : ℕ) → ((c : Cause) (a b : ℕ) → Named D P s c a b → NamedInCheck D s c a b)
-    → StopsSo (NamesOnly D s) (pass D stop budget P s)
+-- a pass stops at pairs that it may name
+pub pass-stops : (At : Entry → Fact) (D : Document) (P : Pass) (s budget : ℕ)
+    → ((c : Cause) (a b : ℕ) → Named D P s c a b → (z : State) → At (entry s c a b) z) → StopsSo At (pass D stop budget P s)
 unfolding pass compareFirst
-pass-names D P s budget may z =
-    carried-walk D P s _ _ _ (stops-carries (NamesOnly D s) D P s budget stop by-part) (suc (D .limit)) (s ∷ []) top (fresh z)
+pass-stops At D P s budget may z =
+    carried-walk D P s _ _ _ (stops-carries At D P s budget stop by-part) (suc (D .limit)) (s ∷ []) top (fresh z)
   where
-    by-part : (sets part : List ℕ) → Met D P s sets → part ∈ P .parts (expand D sets) → StopsSo (NamesOnly D s) (compareFirst stop s (P .clash) part)
+    by-part : (sets part : List ℕ) → Met D P s sets → part ∈ P .parts (expand D sets) → StopsSo At (compareFirst stop s (P .clash) part)
     by-part sets [] met m = λ z. tt
-    by-part sets (a ∷ others) met m =
-        stops-against (NamesOnly D s) s (P .clash) a others (λ c b f z. named-entry (may c a b (named met m f)))
+    by-part sets (a ∷ others) met m = stops-against At s (P .clash) a others (λ c b f. may c a b (named met m f))
 
 pub check-names : (D : Document) (budget used s : ℕ) → Meets Anyhow (Stopping (NamesOnly D s)) (check D budget used s)
 unfolding check passes
 check-names D budget used s =
     stops-then (NamesOnly D s) (pass D stop budget (shapePass D) s) (pass D stop budget (parentPass D) s)
-    (pass-names D (shapePass D) s budget (λ c a b. inl)) (pass-names D (parentPass D) s budget (λ c a b. inr)) (begin used)
+    (pass-stops (NamesOnly D s) D (shapePass D) s budget (λ c a b h z. named-entry (inl h)))
+    (pass-stops (NamesOnly D s) D (parentPass D) s budget (λ c a b h z. named-entry (inr h))) (begin used)
 
 -- ---- what is compared and clashes is a true conflict
 

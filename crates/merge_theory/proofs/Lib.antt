@@ -10,10 +10,12 @@
 --     Stopping      where a walk stops at a conflict; Conflict: T1
 --     Height        a number that falls from level to level
 --     Gone          a pass that is gone through has compared everything; Clean: what that means; Complete: T2
+--     KindLaws      15 and 16: no conflict in shape
 --     Entries       B1, B4; ListingLaws: B2, B3, B5
 --     Sizes         T3, B6: the budget and the room; NoRoom: the check is the listing with no room
 --     Units         the units pay for the known lists; Charges: exactly what they pay for
 --     Distinct      the rule over two different fields at a time
+--     RuleMeaning   the rule over tests is the rule over what they decide
 --     Order         the rule does not depend on order; OrderLinks: nor do links and reach
 --     Equivalences  comparisons, for whoever shows that a document is sound
 --     Loops         laws for code that goes up a list
@@ -36,6 +38,7 @@ pub mod Height
 pub mod Gone
 pub mod Clean
 pub mod Complete
+pub mod KindLaws
 pub mod Entries
 pub mod Sizes
 pub mod NoRoom
@@ -43,6 +46,7 @@ pub mod ListingLaws
 pub mod Units
 pub mod Charges
 pub mod Distinct
+pub mod RuleMeaning
 pub mod Order
 pub mod OrderLinks
 pub mod Equivalences

@@ -1,16 +1,15 @@
 -- The theorems, whole and in one place: what is proved of the merge walk. Each says in its type what it assumes of the document.
-use mathlib.Core.Path.{_≡_, refl, sym, ap, _∙_, subst}
-use mathlib.Core.Logic.{_↔_}
+use mathlib.Core.Path.{_≡_, refl, ap, subst}
+use mathlib.Core.Logic.{_↔_, _⊎_, ⊎-map, ⊎-elim}
 use mathlib.Core.List.{List, [], _∷_}
 use Prim.Native.Nat.{ℕ, suc, _+_, _≤_}
-use native.Mathlib.Nat.{le-refl}
 use native.Mathlib.Omega.{arith}
 use lib.ListN.{length}
 use Rattle.merge_theory.specs.Lists.{_∈_, Every, flatMap}
-use Rattle.merge_theory.specs.Document.{Document, Cause, Equivalence, FieldAt, Sound}
+use Rattle.merge_theory.specs.Document.{Document, Cause, shape, Equivalence, FieldAt, Sound}
 use Rattle.merge_theory.specs.Expand.{FieldIn, QueueWalk, visits, fieldsOf, expand}
 use Rattle.merge_theory.specs.Steps.{Entry, entry, State, Result, finished, conflict, out, deep, IsFinished, IsOut, stateOf, Found, stop, list}
-use Rattle.merge_theory.specs.Walk.{Pass, begin, pass, passes, check, listing, checks}
+use Rattle.merge_theory.specs.Walk.{Pass, begin, pass, passes, check, listing}
 use Rattle.merge_theory.specs.Named.{NamedInCheck}
 use Rattle.merge_theory.specs.Rule.{MergeFails, Reached, start, onward, RuleHolds, RuleHolds≢}
 use Rattle.merge_theory.specs.TrueConflict.{TrueConflict}
@@ -23,6 +22,7 @@ use Rattle.merge_theory.proofs.Outcome.{Anyhow, AnyStop, Shallow, Meets
 use Rattle.merge_theory.proofs.Stopping.{Stopping}
 use Rattle.merge_theory.proofs.Conflict.{NamedEntry, named-entry, NamesOnly, check-names, either-true, either-compared, true-fails}
 use Rattle.merge_theory.proofs.Complete.{check-clean, reached-up}
+use Rattle.merge_theory.proofs.KindLaws.{shape-or-other, other-cause}
 use Rattle.merge_theory.proofs.Found.{Modest, stop-modest, list-modest}
 use Rattle.merge_theory.proofs.Units.{Paid, InBudget, pass-paid, passes-within, all-within, within}
 use Rattle.merge_theory.proofs.Entries.{ComparedIn, compared-in, Distinct, ends-compared, ends-distinct, ends-fitting}
@@ -180,6 +180,32 @@ module _ (D : Document) {At : ℕ → Type 0} (S : Sound D At) (budget used s : 
       go (conflict f z) e h = (λ t. absurd t, λ none. conflicts none (conflict-own D budget used s f z e))
       go (out z) e h = absurd (h tt)
       go (deep z) e h = absurd (never-deep D S budget used s at z e)
+
+  -- 15 and 16 are never named where two fields truly conflict in shape.
+  pub shape-before : (c : Cause) (a b : ℕ) (z : State) → check D budget used s ≡ conflict (entry s c a b) z
+      → (c ≡ shape) ⊎ ((a′ b′ : ℕ) → ¬ TrueConflict D s shape a′ b′)
+  shape-before c a b z e = ⊎-map (λ h. h) (other-cause D S budget used s at (entry s c a b) z e) (shape-or-other c)
+
+  -- A check that does not run out stops at a conflict in shape exactly if there is one.
+  pub shape-exactly : ¬ IsOut (check D budget used s)
+      → ((a : ℕ) × (b : ℕ) × (z : State) × (check D budget used s ≡ conflict (entry s shape a b) z)) ↔ ((a : ℕ) × (b : ℕ) × TrueConflict D s shape a b)
+  shape-exactly covered = (
+    λ (a, b, z, e). (a, b, conflict-true D budget used s shape a b z e),
+    λ (a, b, bad). go (check D budget used s) refl covered a b bad,
+  )
+    where
+      InShape : Type 0
+      InShape = (a : ℕ) × (b : ℕ) × (z : State) × (check D budget used s ≡ conflict (entry s shape a b) z)
+
+      by-entry : {f : Entry} {z : State} → check D budget used s ≡ conflict f z → NamedEntry D s f → (a b : ℕ) → TrueConflict D s shape a b → InShape
+      by-entry {z = z} e (named-entry {c = c} {a = a} {b = b} h) a′ b′ bad =
+          ⊎-elim (λ is. (a, b, z, subst (λ x. check D budget used s ≡ conflict (entry s x a b) z) is e)) (λ none. absurd (none a′ b′ bad)) (shape-before c a b z e)
+
+      go : (r : Result) → check D budget used s ≡ r → ¬ IsOut r → (a b : ℕ) → TrueConflict D s shape a b → InShape
+      go (finished z) e h a b bad = absurd (finished-holds D S budget used s at z e s start (true-fails D s shape a b bad))
+      go (conflict f z) e h a b bad = by-entry e (conflict-own D budget used s f z e) a b bad
+      go (out z) e h a b bad = absurd (h tt)
+      go (deep z) e h a b bad = absurd (never-deep D S budget used s at z e)
 
   -- The same for the rule over two different fields at a time.
   pub decides-distinct : ¬ IsOut (check D budget used s) → IsFinished (check D budget used s) ↔ RuleHolds≢ D s

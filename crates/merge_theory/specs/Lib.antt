@@ -7,6 +7,7 @@
 --     Walk          01: the two passes, known lists, charges; 02, b: the listing
 --     Named         01: which pair is named
 --     Rule          the specification's pairwise rule (October 2021, 5.3.2)
+--     RuleBy        the same rule over relations in place of tests
 --     TrueConflict  01: two fields truly conflict
 --     Links         01, kind 7: the links of a chain
 --     Units         01: what the units pay for
@@ -20,6 +21,7 @@ pub mod Steps
 pub mod Walk
 pub mod Named
 pub mod Rule
+pub mod RuleBy
 pub mod TrueConflict
 pub mod Links
 pub mod Units
