@@ -17,3 +17,4 @@ pub mod Theorems
 pub mod Owners
 pub mod Verdict
 pub mod Specimens
+pub mod Whole
