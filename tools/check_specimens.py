@@ -1,5 +1,5 @@
 #!/usr/bin/env python3
-"""Writes the specimens of the whole check: document 01's, each with its budget, its scratch and the five numbers of its reply.
+"""Writes the specimens of the whole check: document 01's, and three on the walk's order, each with its budget, its scratch and the five numbers of its reply.
 
     tools/check_specimens.py > crates/query/specs/Specimens.antt
 
@@ -87,6 +87,23 @@ INNER = {
     "selections": [field(20, 20, 1, 1), field(20, 20, 1, 2), field(21, 22, 0), field(21, 23, 0)],
 }
 
+# the inline on Dog stands before that on Cat
+DOG_THEN_CAT = {
+    "types": [(10, SCALAR), (11, OBJECT), (12, OBJECT), (13, INTERFACE), (14, OBJECT)],
+    "references": [(NAMED, 0), (NAMED, 3)],
+    "operations": [OPERATION],
+    "sets": [(4, 0, 1), (3, 1, 2), (2, 3, 2), (1, 5, 2)],
+    "selections": [field(20, 20, 1, 1), inline(2), inline(3), field(21, 23, 0), field(21, 22, 0), field(21, 22, 0), field(21, 23, 0)],
+}
+
+PAIR_OVER_PAIR = {**INNER, "selections": [field(20, 24, 1, 1), field(20, 25, 1, 2), field(21, 22, 0), field(21, 23, 0)]}
+
+SHAPE_OVER_SHAPE = {
+    **INNER,
+    "references": [(NAMED, 0), (NAMED, 1), (NON_NULL, 0), (NON_NULL, 1)],
+    "selections": [field(20, 20, 1, 1), field(20, 20, 3, 2), field(21, 22, 0), field(21, 22, 2)],
+}
+
 BOTH = [inline(2), inline(3)]
 LEAF_AND_PET = [(NAMED, 0), (NAMED, 3)]
 LISTS = (LIST_VALUE, 2, 1), (LIST_VALUE, 3, 2), [(NONE, 1), (NONE, 1), (NONE, 2)]
@@ -120,9 +137,12 @@ CASES = [
         (0, 0, 0, 0, 10),
     ),
     ("`{a{x:p} a{x:q}}`, one leaf type: the inner fields", INNER, 100, 5120, (15, 0, 2, 3, 12)),
+    ("`n: nick n: name` on Dog, then both on Cat: Dog's subgroup comes first", DOG_THEN_CAT, 100, 5200, (15, 0, 3, 4, 14)),
+    ("`{a:p{x:r} a:q{x:s}}`: the outer pair comes first", PAIR_OVER_PAIR, 100, 5104, (15, 0, 0, 1, 9)),
+    ("`{a{x} a{x}}`, T and T!, String and String!: the outer pair comes first", SHAPE_OVER_SHAPE, 100, 5136, (14, 0, 0, 1, 3)),
 ]
 
-HEAD = """-- Document 01's specimens of the whole check: images, budgets, scratch, and the five numbers of each reply. Written by
+HEAD = """-- Specimens of the whole check, document 01's and three on the walk's order: images, budgets, scratch, and the five numbers of each reply. Written by
 -- tools/check_specimens.py. Assumes nothing.
 use Prim.Native.Nat.{ℕ}
 use mathlib.Core.List.{List, [], _∷_}

@@ -159,6 +159,33 @@ shape-first = record {
   objects = true ∷ [];
 }
 
+-- n: nick and n: name on Dog (type 2), and again on Cat (type 1): both subgroups fail, and that of Dog comes first, as its fields do
+abbrev two-subgroups : Tables
+two-subgroups = record {
+  sets = (0 ∷ 1 ∷ []) ∷ (2 ∷ 3 ∷ []) ∷ (4 ∷ 5 ∷ []) ∷ [];
+  rows = inlining 1 ∷ inlining 2 ∷ leaf 7 9 2 ∷ leaf 7 8 2 ∷ leaf 7 8 1 ∷ leaf 7 9 1 ∷ [];
+  objects = false ∷ true ∷ true ∷ [];
+}
+
+-- {a:p{x:r} a:q{x:s}}: the two a are compared before what is below them
+abbrev aliased : (own type set : ℕ) → Row
+aliased own type set = record { kind = field; response = 1; own = own; type = type; args = 0; link = some set; parent = 0 }
+
+abbrev pair-over-pair : Tables
+pair-over-pair = record {
+  sets = (0 ∷ 1 ∷ []) ∷ (2 ∷ []) ∷ (3 ∷ []) ∷ [];
+  rows = aliased 2 1 1 ∷ aliased 3 1 2 ∷ leaf 5 6 0 ∷ leaf 5 7 0 ∷ [];
+  objects = true ∷ [];
+}
+
+-- {a{n} a{n}}, where the types of the two a disagree, and those of the two n: likewise in the shape pass
+abbrev shape-over-shape : Tables
+shape-over-shape = record {
+  sets = (0 ∷ 1 ∷ []) ∷ (2 ∷ []) ∷ (3 ∷ []) ∷ [];
+  rows = aliased 1 1 1 ∷ aliased 1 2 2 ∷ with-type 3 ∷ with-type 4 ∷ [];
+  objects = true ∷ [];
+}
+
 -- ---- the table
 
 -- a document, a budget, and the reply's kind, a, b and used
@@ -182,6 +209,9 @@ table =
     ∷ specimen two-groups 100 (15 ∷ 0 ∷ 2 ∷ 10 ∷ [])
     ∷ specimen below-first 100 (15 ∷ 4 ∷ 5 ∷ 16 ∷ [])
     ∷ specimen shape-first 100 (14 ∷ 2 ∷ 3 ∷ 5 ∷ [])
+    ∷ specimen two-subgroups 100 (15 ∷ 2 ∷ 3 ∷ 10 ∷ [])
+    ∷ specimen pair-over-pair 100 (15 ∷ 0 ∷ 1 ∷ 9 ∷ [])
+    ∷ specimen shape-over-shape 100 (14 ∷ 0 ∷ 1 ∷ 3 ∷ [])
     ∷ []
 
 abbrev pub shown : Result → List ℕ

@@ -1,4 +1,4 @@
--- Document 01's specimens of the whole check: images, budgets, scratch, and the five numbers of each reply. Written by
+-- Specimens of the whole check, document 01's and three on the walk's order: images, budgets, scratch, and the five numbers of each reply. Written by
 -- tools/check_specimens.py. Assumes nothing.
 use Prim.Native.Nat.{ℕ}
 use mathlib.Core.List.{List, [], _∷_}
@@ -41,4 +41,10 @@ specimens =
     record { image = 1 ∷ 97 ∷ 5 ∷ 20 ∷ 3 ∷ 30 ∷ 1 ∷ 36 ∷ 0 ∷ 40 ∷ 4 ∷ 40 ∷ 5 ∷ 52 ∷ 0 ∷ 97 ∷ 0 ∷ 97 ∷ 0 ∷ 97 ∷ 10 ∷ 0 ∷ 11 ∷ 1 ∷ 12 ∷ 1 ∷ 13 ∷ 2 ∷ 14 ∷ 1 ∷ 0 ∷ 1 ∷ 0 ∷ 2 ∷ 0 ∷ 3 ∷ 0 ∷ 0 ∷ 0 ∷ 0 ∷ 4 ∷ 0 ∷ 1 ∷ 3 ∷ 1 ∷ 2 ∷ 1 ∷ 3 ∷ 1 ∷ 2 ∷ 4 ∷ 1 ∷ 0 ∷ 20 ∷ 20 ∷ 2 ∷ 0 ∷ 0 ∷ 1 ∷ 0 ∷ 0 ∷ 2 ∷ 0 ∷ 0 ∷ 0 ∷ 0 ∷ 0 ∷ 2 ∷ 0 ∷ 0 ∷ 2 ∷ 0 ∷ 0 ∷ 0 ∷ 0 ∷ 0 ∷ 3 ∷ 0 ∷ 0 ∷ 0 ∷ 21 ∷ 22 ∷ 0 ∷ 0 ∷ 0 ∷ 4294967295 ∷ 0 ∷ 0 ∷ 0 ∷ 21 ∷ 23 ∷ 1 ∷ 0 ∷ 0 ∷ 4294967295 ∷ 0 ∷ 0 ∷ []; work = 100; long = 5184; replies = answer 0 0 0 0 10 } ∷
     -- `{a{x:p} a{x:q}}`, one leaf type: the inner fields
     record { image = 1 ∷ 79 ∷ 3 ∷ 20 ∷ 2 ∷ 26 ∷ 1 ∷ 30 ∷ 0 ∷ 34 ∷ 3 ∷ 34 ∷ 4 ∷ 43 ∷ 0 ∷ 79 ∷ 0 ∷ 79 ∷ 0 ∷ 79 ∷ 10 ∷ 0 ∷ 11 ∷ 1 ∷ 12 ∷ 1 ∷ 0 ∷ 0 ∷ 0 ∷ 1 ∷ 0 ∷ 0 ∷ 0 ∷ 0 ∷ 2 ∷ 0 ∷ 2 ∷ 1 ∷ 2 ∷ 1 ∷ 1 ∷ 3 ∷ 1 ∷ 0 ∷ 20 ∷ 20 ∷ 1 ∷ 0 ∷ 0 ∷ 1 ∷ 0 ∷ 0 ∷ 0 ∷ 20 ∷ 20 ∷ 1 ∷ 0 ∷ 0 ∷ 2 ∷ 0 ∷ 0 ∷ 0 ∷ 21 ∷ 22 ∷ 0 ∷ 0 ∷ 0 ∷ 4294967295 ∷ 0 ∷ 0 ∷ 0 ∷ 21 ∷ 23 ∷ 0 ∷ 0 ∷ 0 ∷ 4294967295 ∷ 0 ∷ 0 ∷ []; work = 100; long = 5120; replies = answer 15 0 2 3 12 } ∷
+    -- `n: nick n: name` on Dog, then both on Cat: Dog's subgroup comes first
+    record { image = 1 ∷ 113 ∷ 5 ∷ 20 ∷ 2 ∷ 30 ∷ 1 ∷ 34 ∷ 0 ∷ 38 ∷ 4 ∷ 38 ∷ 7 ∷ 50 ∷ 0 ∷ 113 ∷ 0 ∷ 113 ∷ 0 ∷ 113 ∷ 10 ∷ 0 ∷ 11 ∷ 1 ∷ 12 ∷ 1 ∷ 13 ∷ 2 ∷ 14 ∷ 1 ∷ 0 ∷ 0 ∷ 0 ∷ 3 ∷ 0 ∷ 0 ∷ 0 ∷ 0 ∷ 4 ∷ 0 ∷ 1 ∷ 3 ∷ 1 ∷ 2 ∷ 2 ∷ 3 ∷ 2 ∷ 1 ∷ 5 ∷ 2 ∷ 0 ∷ 20 ∷ 20 ∷ 1 ∷ 0 ∷ 0 ∷ 1 ∷ 0 ∷ 0 ∷ 2 ∷ 0 ∷ 0 ∷ 0 ∷ 0 ∷ 0 ∷ 2 ∷ 0 ∷ 0 ∷ 2 ∷ 0 ∷ 0 ∷ 0 ∷ 0 ∷ 0 ∷ 3 ∷ 0 ∷ 0 ∷ 0 ∷ 21 ∷ 23 ∷ 0 ∷ 0 ∷ 0 ∷ 4294967295 ∷ 0 ∷ 0 ∷ 0 ∷ 21 ∷ 22 ∷ 0 ∷ 0 ∷ 0 ∷ 4294967295 ∷ 0 ∷ 0 ∷ 0 ∷ 21 ∷ 22 ∷ 0 ∷ 0 ∷ 0 ∷ 4294967295 ∷ 0 ∷ 0 ∷ 0 ∷ 21 ∷ 23 ∷ 0 ∷ 0 ∷ 0 ∷ 4294967295 ∷ 0 ∷ 0 ∷ []; work = 100; long = 5200; replies = answer 15 0 3 4 14 } ∷
+    -- `{a:p{x:r} a:q{x:s}}`: the outer pair comes first
+    record { image = 1 ∷ 79 ∷ 3 ∷ 20 ∷ 2 ∷ 26 ∷ 1 ∷ 30 ∷ 0 ∷ 34 ∷ 3 ∷ 34 ∷ 4 ∷ 43 ∷ 0 ∷ 79 ∷ 0 ∷ 79 ∷ 0 ∷ 79 ∷ 10 ∷ 0 ∷ 11 ∷ 1 ∷ 12 ∷ 1 ∷ 0 ∷ 0 ∷ 0 ∷ 1 ∷ 0 ∷ 0 ∷ 0 ∷ 0 ∷ 2 ∷ 0 ∷ 2 ∷ 1 ∷ 2 ∷ 1 ∷ 1 ∷ 3 ∷ 1 ∷ 0 ∷ 20 ∷ 24 ∷ 1 ∷ 0 ∷ 0 ∷ 1 ∷ 0 ∷ 0 ∷ 0 ∷ 20 ∷ 25 ∷ 1 ∷ 0 ∷ 0 ∷ 2 ∷ 0 ∷ 0 ∷ 0 ∷ 21 ∷ 22 ∷ 0 ∷ 0 ∷ 0 ∷ 4294967295 ∷ 0 ∷ 0 ∷ 0 ∷ 21 ∷ 23 ∷ 0 ∷ 0 ∷ 0 ∷ 4294967295 ∷ 0 ∷ 0 ∷ []; work = 100; long = 5104; replies = answer 15 0 0 1 9 } ∷
+    -- `{a{x} a{x}}`, T and T!, String and String!: the outer pair comes first
+    record { image = 1 ∷ 83 ∷ 3 ∷ 20 ∷ 4 ∷ 26 ∷ 1 ∷ 34 ∷ 0 ∷ 38 ∷ 3 ∷ 38 ∷ 4 ∷ 47 ∷ 0 ∷ 83 ∷ 0 ∷ 83 ∷ 0 ∷ 83 ∷ 10 ∷ 0 ∷ 11 ∷ 1 ∷ 12 ∷ 1 ∷ 0 ∷ 0 ∷ 0 ∷ 1 ∷ 1 ∷ 0 ∷ 1 ∷ 1 ∷ 0 ∷ 0 ∷ 0 ∷ 0 ∷ 2 ∷ 0 ∷ 2 ∷ 1 ∷ 2 ∷ 1 ∷ 1 ∷ 3 ∷ 1 ∷ 0 ∷ 20 ∷ 20 ∷ 1 ∷ 0 ∷ 0 ∷ 1 ∷ 0 ∷ 0 ∷ 0 ∷ 20 ∷ 20 ∷ 3 ∷ 0 ∷ 0 ∷ 2 ∷ 0 ∷ 0 ∷ 0 ∷ 21 ∷ 22 ∷ 0 ∷ 0 ∷ 0 ∷ 4294967295 ∷ 0 ∷ 0 ∷ 0 ∷ 21 ∷ 22 ∷ 2 ∷ 0 ∷ 0 ∷ 4294967295 ∷ 0 ∷ 0 ∷ []; work = 100; long = 5136; replies = answer 14 0 0 1 3 } ∷
     []
