@@ -65,7 +65,7 @@ module _ {image : List ℕ} (good : Good image) where
 
   module _ (i : ℕ) (own : i < countAt image operations) where
     -- what the theory reaches, the rules on fragments reach too
-    reaches : {t : ℕ} → Reached (documentOf image) i t → reach.Reaches image i t × (t < countAt image sets)
+    pub reaches : {t : ℕ} → Reached (documentOf image) i t → reach.Reaches image i t × (t < countAt image sets)
     reaches start = (reach.itself, good .operation i own .set)
     reaches (onward {row = row} r m l) =
         let before = reaches r in
@@ -73,7 +73,7 @@ module _ {image : List ℕ} (good : Good image) where
         let known = link-in good link in
         (reach.onward (before .0) (record { row = row; stands = link .stands; below = link .leads; known = known }), known)
 
-    field-row : (row : ℕ) → FieldAt (documentOf image) (Reached (documentOf image) i) row → FieldRow image row
+    pub field-row : (row : ℕ) → FieldAt (documentOf image) (Reached (documentOf image) i) row → FieldRow image row
     field-row row (field-at at m is) = record {
       row = row-known (reaches at .1) m;
       kind = field-by-kind good (sameShape image) (sameArguments image) row is;

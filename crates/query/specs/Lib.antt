@@ -3,6 +3,7 @@ pub mod Needed
 pub mod Reply
 pub mod Refusing
 pub mod Given
+pub mod Right
 pub mod Specimens
 pub mod Operation
 pub mod Judging
