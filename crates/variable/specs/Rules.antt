@@ -1,5 +1,5 @@
 -- The rules on an operation's variables, written from the specification of October 2021 (5.8.1, 5.8.2, 5.8.4, 5.8.5) over what an
--- operation reaches: relations, no steps and no words of scratch. Document 01's gaps are said where they are.
+-- operation reaches: relations, no words of scratch; types are read by `typeOf`, whose steps suffice. Document 01's gaps are said where they are.
 -- Assumes nothing.
 use Prim.Native.Nat.{ℕ, _<_, _≤_}
 use mathlib.Core.Path.{_≡_}
