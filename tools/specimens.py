@@ -1,7 +1,7 @@
 #!/usr/bin/env python3
-"""Writes the table reader's specimens: images, what the row check shows of each, and where the selections of one set stand.
+"""Writes the row check's specimens: images, what the row check shows of each, and where the selections of one set stand.
 
-    tools/specimens.py > crates/tables/specs/Specimens.antt
+    tools/specimens.py > crates/rows/specs/Specimens.antt
 
 An image is described table by table; a damaged one is the description with one thing changed. What each must show is said here
 by hand; that the definitions agree is proved in antt, by computation.

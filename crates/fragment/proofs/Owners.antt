@@ -9,7 +9,7 @@ use native.Mathlib.Decide.{decLe}
 use Rattle.tables.specs.Layout.{operations, fragments, sets, selections}
 use Rattle.tables.specs.Image.{countAt}
 use Rattle.tables.specs.Columns.{spread, selectionKind, selectionTarget, selectionAt, fragmentSet}
-use Rattle.tables.specs.Selections.{ownsSet, nextSet}
+use Rattle.tables.specs.Numbering.{ownsSet, nextSet}
 use Rattle.tables.specs.Good.{Good, GoodOwned, StandsIn}
 use Rattle.tables.proofs.ColumnLaws.{owners, next-set-first, next-set-more}
 use Rattle.fragment.specs.Meaning.{Inside, at-top, deeper}

@@ -1,10 +1,8 @@
 -- All specimens of kinds 5 and 9 in one statement, by computation. Assumes nothing.
 use mathlib.Core.Path.{_≡_, refl}
 use mathlib.Core.List.{map}
-use mathlib.Core.Option.{none}
 use Rattle.tables.specs.Columns.{setBelow}
-use Rattle.tables.specs.RowFault.{imageFault}
-use Rattle.tables.proofs.SpecimensHold as tables
+use Rattle.tables.proofs.Computing as tables
 use Rattle.variable.specs.Turns.{turns}
 use Rattle.variable.specs.Reach.{queueSet, markSet, enterSet, walkSelection, walkSet, walkQueue, noneMet, startSets, reachedFrom}
 use Rattle.fragment.specs.Chains.{isSpread, isNesting}
@@ -24,8 +22,3 @@ computes = tt
 pub specimens-shown : map (λ (x : Specimen). fragmentsFault (x .image)) specimens ≡ map (λ (x : Specimen). x .shown) specimens
 unfolding computes
 specimens-shown = refl
-
--- and they break no row rule
-pub specimens-good : map (λ (x : Specimen). imageFault (x .image)) specimens ≡ map (λ (x : Specimen). none) specimens
-unfolding computes
-specimens-good = refl

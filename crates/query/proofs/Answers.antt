@@ -18,9 +18,10 @@ use Rattle.merge_theory.proofs.Theorems.{conflict-true, conflict-breaks, finish
 use Rattle.tables.specs.Layout.{operations}
 use Rattle.tables.specs.Image.{countAt}
 use Rattle.tables.specs.Header.{Refusal, headerFault}
-use Rattle.tables.specs.RowFault.{rowFault}
-use Rattle.tables.proofs.Promise.{rows-good}
-use Rattle.tables.proofs.ShownKinds.{header-kind, row-kind}
+use Rattle.rows.specs.RowFault.{rowFault}
+use Rattle.rows.proofs.Promise.{rows-good}
+use Rattle.tables.proofs.ShownKinds.{header-kind}
+use Rattle.rows.proofs.ShownKinds.{row-kind}
 use Rattle.variable.specs.Verdict.{usageFault}
 use Rattle.variable.specs.Rules.{Verdict}
 use Rattle.variable.proofs.VerdictMeaning.{verdict-exactly}

@@ -16,9 +16,9 @@ use Rattle.merge_theory.proofs.Theorems.{conflict-own, never-deep}
 use Rattle.tables.specs.Layout.{operations}
 use Rattle.tables.specs.Image.{countAt}
 use Rattle.tables.specs.Header.{Refusal, headerFault}
-use Rattle.tables.specs.RowFault.{rowFault}
+use Rattle.rows.specs.RowFault.{rowFault}
 use Rattle.tables.specs.Good.{Good}
-use Rattle.tables.proofs.Promise.{rows-good}
+use Rattle.rows.proofs.Promise.{rows-good}
 use Rattle.variable.specs.Verdict.{Shown, usageFault}
 use Rattle.fragment.specs.Rules as fragment
 use Rattle.selection.specs.declared.arena.Reply.{Reply}

@@ -16,11 +16,11 @@ use Rattle.lists.proofs.FirstLaws.{some-is-not-none}
 use Rattle.tables.specs.Layout.{selections}
 use Rattle.tables.specs.Image.{countAt}
 use Rattle.tables.specs.Header.{Refusal, headerFault}
-use Rattle.tables.specs.RowFault.{rowFault, imageFault, rowsShow}
-use Rattle.tables.specs.declared.rows.Rows.{Rows}
-use Rattle.tables.specs.declared.rows.Rows.the-variants as rows
+use Rattle.rows.specs.RowFault.{rowFault, imageFault, rowsShow}
+use Rattle.rows.specs.declared.Rows.{Rows}
+use Rattle.rows.specs.declared.Rows.the-variants as rows
 use Rattle.tables.specs.Good.{Good}
-use Rattle.tables.proofs.Promise.{good-image, rows-decide}
+use Rattle.rows.proofs.Promise.{good-image, rows-decide}
 use Rattle.variable.specs.Uses.{usesWords}
 use Rattle.fragment.specs.Rules as fragment
 use Rattle.fragment.specs.declared.rules.Fragments.{Fragments}

@@ -2,6 +2,7 @@
 use mathlib.Core.Path.{_≡_, refl}
 use mathlib.Core.List.{map}
 use Rattle.merge_theory.specs.Walk as walk
+use Rattle.rows.proofs.SpecimensHold as rows
 use Rattle.fragment.proofs.Specimens as fragment
 use Rattle.variable.specs.Types.{isNonNull}
 use Rattle.variable.specs.Definitions.{firstOutput, firstRepeated, alike, agreesAt, compatibleIn, compatible, usageAllowed}
@@ -16,7 +17,7 @@ use Rattle.query.specs.Specimens.{Specimen, specimens}
 
 pub specimens-hold : map (λ (s : Specimen). reply (s .image) (s .work) (s .long)) specimens ≡ map (λ (s : Specimen). s .replies) specimens
 unfolding
-    walk.computes fragment.computes
+    walk.computes rows.computes fragment.computes
     isNonNull alike agreesAt compatibleIn compatible usageAllowed firstOutput firstRepeated
     furthest reachRange reachSelection reachSet reachQueue noneUsed reachArguments markVariable useValue passRow markVariables usesOf
     firstUnused argumentAllowed allowedBelow firstMisused usesFault definedFault

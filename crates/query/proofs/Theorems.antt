@@ -31,8 +31,8 @@ use Rattle.merge_theory.specs.TrueConflict.{TrueConflict}
 use Rattle.tables.specs.Layout.{operations}
 use Rattle.tables.specs.Image.{countAt}
 use Rattle.tables.specs.Header.{headerFault}
-use Rattle.tables.specs.RowFault.{rowFault}
-use Rattle.tables.proofs.Promise.{rows-good}
+use Rattle.rows.specs.RowFault.{rowFault}
+use Rattle.rows.proofs.Promise.{rows-good}
 use Rattle.variable.specs.Verdict.{Shown}
 use Rattle.variable.specs.Rules.{Verdict}
 use Rattle.variable.proofs.VerdictMeaning.{verdict-exactly}

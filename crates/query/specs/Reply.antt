@@ -12,7 +12,7 @@ use Rattle.merge_theory.specs.Walk.{check}
 use Rattle.tables.specs.Layout.{operations}
 use Rattle.tables.specs.Image.{countAt}
 use Rattle.tables.specs.Header.{Refusal, headerFault}
-use Rattle.tables.specs.RowFault.{rowFault}
+use Rattle.rows.specs.RowFault.{rowFault}
 use Rattle.variable.specs.Verdict.{Shown, usageFault}
 use Rattle.fragment.specs.Rules as fragment
 use Rattle.selection.specs.ImageDocument.{documentBy}

@@ -17,7 +17,7 @@ use Rattle.tables.specs.declared.Range.{Range}
 use Rattle.tables.specs.Layout.{NONE, operations, fragments, sets, selections}
 use Rattle.tables.specs.Image.{countAt}
 use Rattle.tables.specs.Columns.{field, spread, inline, selectionKind, selectionTarget, selectionAt, setSelections, fragmentSet}
-use Rattle.tables.specs.Selections.{ownsSet}
+use Rattle.tables.specs.Numbering.{ownsSet}
 use Rattle.tables.specs.Good.{Good, GoodOwned, GoodSelection, StandsIn}
 use Rattle.tables.proofs.ColumnLaws.{below-spread, below-own, inline-owns, field-owns, stands}
 use Rattle.selection.specs.ImageDocument.{upFrom, kindFrom, linkFrom, documentBy}

@@ -13,7 +13,7 @@ use Rattle.tables.specs.Layout.{NONE, sets, selections}
 use Rattle.tables.specs.Image.{wordAt, countAt, rowIn}
 use Rattle.tables.specs.declared.columns.Set.{Set}
 use Rattle.tables.specs.Columns.{setParent, setSelections, setAt}
-use Rattle.tables.specs.Rows.{setEnd, setStart}
+use Rattle.tables.specs.Numbering.{setEnd, setStart}
 use Rattle.tables.specs.Good.{Good, StandsIn}
 use Rattle.tables.proofs.Ranges.{row-in}
 use Rattle.tables.proofs.Tidy.{no-limit-over}

@@ -10,7 +10,7 @@ use lib.ListN.{length, getD}
 use Rattle.tables.specs.Layout.{types, selections}
 use Rattle.tables.specs.Image.{countAt}
 use Rattle.tables.specs.Columns.{objectType, typeKind, responseName, setParent}
-use Rattle.tables.specs.Selections.{homeSet}
+use Rattle.tables.specs.Numbering.{homeSet}
 use Rattle.tables.specs.Good.{Good}
 use Rattle.selection.specs.Regions.{rowsAtMost}
 use Rattle.selection.specs.Parents.{Parents}

@@ -10,7 +10,7 @@ use lib.ListN.{length, getD}
 use Rattle.tables.specs.Layout.{selections}
 use Rattle.tables.specs.Image.{countAt}
 use Rattle.tables.specs.Columns.{objectType, typeKind, responseName, setParent}
-use Rattle.tables.specs.Selections.{homeSet}
+use Rattle.tables.specs.Numbering.{homeSet}
 use Rattle.tables.specs.Good.{Good}
 
 -- fields of these parents are in one segment: one object, or no objects

@@ -9,7 +9,7 @@ use Rattle.tables.specs.declared.Range.{Range}
 use Rattle.tables.specs.Layout.{NONE}
 use Rattle.tables.specs.Columns.{objectType, typeKind, setParent, setSelections, selectionKind, responseName, fieldName, fieldType, fieldArguments, selectionAt, setBelow}
 use Rattle.tables.specs.Columns as columns
-use Rattle.tables.specs.Selections.{homeSet}
+use Rattle.tables.specs.Numbering.{homeSet}
 
 -- so many numbers, counted up from the first
 unfoldable pub upFrom : (first count : ℕ) → List ℕ

@@ -7,7 +7,7 @@ use Rattle.lists.specs.Part.{Outside}
 use Rattle.tables.specs.Layout.{NONE, selections}
 use Rattle.tables.specs.Image.{countAt}
 use Rattle.tables.specs.Columns.{setParent}
-use Rattle.tables.specs.Selections.{homeSet}
+use Rattle.tables.specs.Numbering.{homeSet}
 use Rattle.tables.specs.Good.{Good}
 
 -- n words from `first` on are v, where row numbers fit a word and the words are there; the others are as before

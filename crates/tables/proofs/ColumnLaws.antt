@@ -1,7 +1,7 @@
 -- Laws of the columns for the crates above, which unfold nothing of this one: keys by table, kinds of types, where a selection leads,
 -- which of them own a set, what stands in a set, and how few rows a good image has.
 -- Assumes nothing.
-use Prim.Native.Nat.{ℕ, suc, _+_, _<_, _≤_}
+use Prim.Native.Nat.{ℕ, zero, suc, _+_, _<_, _≤_}
 use mathlib.Core.Path.{_≡_, refl}
 use mathlib.Core.Logic.{_⊎_, inl, inr}
 use mathlib.Core.Bool.{Bool, true, false, cond, not, _&&_, _||_, false≢true}
@@ -9,17 +9,17 @@ use mathlib.Core.List.{List, map}
 use native.Mathlib.Omega.{arith}
 use borrow.Author.Tests.{le-leb, lt-leb, lt-ltb, eq-eqb, ne-eqb, eqb-true, eqb-false}
 use lib.Dec.{eqb, leb, leb→le}
+use Rattle.lists.specs.Every.{total}
 use Rattle.lists.proofs.Tests.{both, second-fails}
+use Rattle.lists.proofs.EveryLaws.{total-more}
 use Rattle.tables.specs.Layout.{NONE, Table, edition1, mostRows, operations, fragments, sets, arguments, values}
 use Rattle.tables.specs.Image.{wordAt, countAt}
 use Rattle.tables.specs.Columns.{isComposite, argumentName, valueKey, field, spread, inline, selectionKind, selectionTarget, selectionAt, setSelections, setBelow, fragmentSet, isFragmentSet}
 use Rattle.tables.specs.Keys.{keyOf}
-use Rattle.tables.specs.Rows.{setStart, setEnd}
-use Rattle.tables.specs.Selections.{ownsSet, nextSet}
+use Rattle.tables.specs.Numbering.{setStart, setEnd, ownsSet, owned, nextSet}
 use Rattle.tables.specs.Good.{Good, StandsIn}
 use Rattle.tables.proofs.Lists.{everywhere}
 use Rattle.tables.proofs.Widths.{most-of}
-use Rattle.tables.proofs.HomeLaws as homes
 
 -- the key of an argument is its name, that of a member its key
 pub argument-key : (image : List ℕ) (r : ℕ) → keyOf image arguments r ≡ argumentName image r
@@ -82,10 +82,25 @@ owners image r e = go (eqb (selectionKind image r) inline) (eqb (selectionKind i
 
 -- the number of the next set that a selection owns
 pub next-set-first : (image : List ℕ) → nextSet image 0 ≡ countAt image operations + countAt image fragments
-next-set-first image = homes.next-set-first image
+unfolding nextSet total
+next-set-first image = refl
 
 pub next-set-more : (image : List ℕ) (r : ℕ) → nextSet image (r + 1) ≡ nextSet image r + cond (ownsSet (selectionAt image r)) 1 0
-next-set-more image r = homes.next-set-more image r
+unfolding nextSet
+next-set-more image r = total-more _ (owned image) r
+
+-- each row takes one number at most
+owned-few : (image : List ℕ) (r : ℕ) → owned image r ≤ 1
+owned-few image r = go (ownsSet (selectionAt image r))
+  where
+    go : (b : Bool) → cond b 1 0 ≤ 1
+    go true = omega arith
+    go false = omega arith
+
+pub next-set-most : (image : List ℕ) (r : ℕ) → nextSet image r ≤ countAt image operations + countAt image fragments + r
+unfolding nextSet total
+next-set-most image zero = omega arith
+next-set-most image (suc r) = omega (arith, next-set-most image r, owned-few image r)
 
 -- the rows of a set stand in it
 pub stands : {image : List ℕ} {r s : ℕ} → s < countAt image sets → setSelections image s .first ≤ r → r < setSelections image s .first + setSelections image s .count → StandsIn image r s

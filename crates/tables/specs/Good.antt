@@ -12,11 +12,8 @@ use Rattle.tables.specs.Image.{wordAt, countAt, rowIn}
 use Rattle.tables.specs.Columns.{typeName, typeKind, referenceKind, referenceChild, isComposite, innermost, inputObject}
 use Rattle.tables.specs.Columns.{operationVariables, operationDirectives, fragmentDirectives, fragmentSet, setParent, setSelections}
 use Rattle.tables.specs.Columns.{field, spread, inline, selectionKind, fieldType, fieldArguments, selectionTarget, selectionDirectives, selectionAt}
-use Rattle.tables.specs.Columns.{argumentName, argumentType, argumentDefault, variableType, variableDefault}
-use Rattle.tables.specs.Columns.{null, boolean, list, object, valueKind, valueKey, valueAtom, valueMembers}
-use Rattle.tables.specs.Rows.{setEnd, setStart}
-use Rattle.tables.specs.Selections.{ownsSet, homeSet, nextSet, mostArguments}
-use Rattle.tables.specs.Values.{nextValue, level, mostMembers, deepestLevel}
+use Rattle.tables.specs.Columns.{argumentName, argumentType, argumentDefault, variableType, variableDefault, null, boolean, list, object, valueKind, valueKey, valueAtom, valueMembers}
+use Rattle.tables.specs.Numbering.{setEnd, setStart, ownsSet, homeSet, nextSet, mostArguments, nextValue, level, mostMembers, deepestLevel}
 
 module _ (image : List ℕ) where
   -- a range of a table's rows

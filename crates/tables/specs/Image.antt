@@ -3,7 +3,7 @@
 use Prim.Native.Nat.{ℕ, zero, suc, _+_, _*_, min}
 use mathlib.Core.Bool.{Bool}
 use mathlib.Core.List.{List}
-use lib.Dec.{leb}
+use lib.Dec.{leb, ltb}
 use lib.ListN.{getD}
 use Rattle.tables.specs.Layout.{NONE, headerWords, rowWidth}
 use Rattle.tables.specs.declared.Range.{Range}
@@ -14,6 +14,10 @@ wordAt image k = getD image k 0
 
 abbrev pub countAt : List ℕ → ℕ → ℕ
 countAt image t = wordAt image (2 + 2 * t)
+
+-- table t has a row r
+abbrev pub isRow : List ℕ → ℕ → ℕ → Bool
+isRow image t r = ltb r (countAt image t)
 
 abbrev pub offsetAt : List ℕ → ℕ → ℕ
 offsetAt image t = wordAt image (3 + 2 * t)

@@ -5,11 +5,6 @@ pub mod Header
 pub mod Tidy
 pub mod Columns
 pub mod Keys
-pub mod Rows
-pub mod Selections
-pub mod Values
-pub mod SelectionPass
-pub mod RowFault
+pub mod Numbering
 pub mod Good
 pub mod Lookup
-pub mod Specimens

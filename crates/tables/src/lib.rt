@@ -1,7 +1,7 @@
 // The image (document 01, "The image"): its words, tables and cells. Every read is total: a word past the end is 0. So no
 // public function has a `requires`, and each contract is an equation with a definition of specs/, for every image.
-// header: kind 1. columns: the cells by name. keys: names of arguments, keys of members. rows: kind 4, over plain_rows, selections
-// and values. lookup: the selections of one set.
+// header: kind 1. columns: the cells by name. keys: names of arguments, keys of members. lookup: the selections of one set. The
+// rules of the rows (kind 4) have a crate of their own, `rows`; what they promise of an image is `Good`.
 use lists::get;
 ghost use mathlib.Core.Path.{_≡_};
 ghost use Prim.Native.Nat.{_*_, _^_, _<_};
@@ -12,10 +12,6 @@ pub mod columns;
 pub mod header;
 pub mod keys;
 pub mod lookup;
-pub mod plain_rows;
-pub mod rows;
-mod selections;
-mod values;
 
 pub const NONE: u32 = 4294967295;
 

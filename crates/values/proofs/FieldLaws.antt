@@ -13,7 +13,7 @@ use Rattle.tables.specs.Layout.{arguments}
 use Rattle.tables.specs.Image.{countAt, rowIn}
 use Rattle.tables.specs.Columns.{fieldName, fieldType, fieldArguments}
 use Rattle.tables.specs.Keys.{keyOf}
-use Rattle.tables.specs.Values.{deepestLevel}
+use Rattle.tables.specs.Numbering.{deepestLevel}
 use Rattle.tables.specs.Good.{Good, GoodField}
 use Rattle.tables.proofs.Ranges.{row-in}
 use Rattle.values.specs.Same.{sameValue, sameArguments}

@@ -8,4 +8,3 @@ pub mod ShapeLaws
 pub mod ShapeMeaning
 pub mod FieldLaws
 pub mod SameMeaning
-pub mod SpecimenRows

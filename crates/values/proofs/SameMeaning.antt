@@ -13,7 +13,7 @@ use Rattle.tables.specs.Layout.{arguments, values}
 use Rattle.tables.specs.Image.{countAt, rowIn}
 use Rattle.tables.specs.Columns.{argumentName, valueKind, valueKey, valueAtom, valueMembers}
 use Rattle.tables.specs.Keys.{keyOf}
-use Rattle.tables.specs.Values.{deepestLevel}
+use Rattle.tables.specs.Numbering.{deepestLevel}
 use Rattle.tables.specs.Good.{Good}
 use Rattle.values.specs.Same.{placeOf, sameSet, sameBy, sameValue, sameArguments}
 use Rattle.values.specs.Identical.{Paired, Identical, atoms, lists, objects, IdenticalArguments}

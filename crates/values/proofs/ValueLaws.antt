@@ -14,7 +14,7 @@ use Rattle.tables.specs.Layout.{values}
 use Rattle.tables.specs.Image.{countAt, rowIn}
 use Rattle.tables.specs.Columns.{list, object, valueKind, valueAtom, valueMembers}
 use Rattle.tables.specs.Keys.{keyOf}
-use Rattle.tables.specs.Values.{level, deepestLevel}
+use Rattle.tables.specs.Numbering.{level, deepestLevel}
 use Rattle.tables.specs.Good.{Good, GoodMembers}
 use Rattle.tables.proofs.Ranges.{row-in}
 use Rattle.values.specs.Same.{sameBy, sameValue}

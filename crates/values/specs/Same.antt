@@ -11,7 +11,7 @@ use Rattle.tables.specs.Layout.{arguments, values}
 use Rattle.tables.specs.Image.{rowIn}
 use Rattle.tables.specs.Columns.{list, object, valueKind, valueAtom, valueMembers}
 use Rattle.tables.specs.Keys.{keyOf}
-use Rattle.tables.specs.Values.{deepestLevel}
+use Rattle.tables.specs.Numbering.{deepestLevel}
 
 -- lists: of one length, and the same member by member
 unfoldable pub sameList : (ℕ → ℕ → Bool) → Range → Range → Bool

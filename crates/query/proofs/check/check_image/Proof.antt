@@ -2,7 +2,7 @@
 use borrow.Author.Needs.{needs}
 use denote.Ref.{now}
 use mathlib.Core.Path.{ap}
-use Rattle.tables.specs.RowFault.{rowsShow}
+use Rattle.rows.specs.RowFault.{rowsShow}
 use Rattle.query.proofs.Judges.{by-rows, fits-after, by-document}
 use Rattle.query.proofs.check.check_image.Statement.{statement}
 use Rattle.query.proofs.check.check_image.Tie as tie

@@ -5,7 +5,7 @@ use mathlib.Core.Path.{_≡_, refl, _∙_}
 use native.Mathlib.Omega.{arith}
 use Prim.Native.Nat.{_≤_, _-_}
 use lib.ListN.{length}
-use Rattle.tables.specs.Rows.{setStart}
+use Rattle.tables.specs.Numbering.{setStart}
 use Rattle.tables.specs.Layout.{sets, selections}
 use Rattle.selection.specs.Parents.{ParentsBelow}
 use Rattle.tables.specs.Good.{Good}
