@@ -14,7 +14,7 @@ use Rattle.tables.specs.Image.{countAt}
 use Rattle.tables.specs.Columns.{fragmentSet}
 use Rattle.tables.specs.Good.{Good}
 use Rattle.tables.specs.declared.Range.{Range}
-use Rattle.variable.specs.Reach.{reachedFrom, led, Walked}
+use Rattle.reach.specs.Reach.{reachedFrom, led, Walked}
 use Rattle.fragment.specs.Rounds.{heightAt}
 use Rattle.fragment.specs.Rules.{isSpreadFrom, ownSet, operationSets, reachesItself, isUnused, fragmentsWords}
 use Rattle.fragment.specs.Walks.{behind, HeightsKept, Marked, Ready}

@@ -13,7 +13,7 @@ use Rattle.tables.specs.Layout.{NONE, sets}
 use Rattle.tables.specs.Image.{countAt, rowIn}
 use Rattle.tables.specs.Columns.{setSelections}
 use Rattle.tables.specs.Good.{Good, StandsIn}
-use Rattle.variable.proofs.ReachMeaning.{member-stands, stands-member}
+use Rattle.reach.proofs.ReachMeaning.{member-stands, stands-member}
 use Rattle.fragment.specs.Chains.{below, oneIf, weigh, isSpread, Link, Chain, end, last, link, Sound}
 use Rattle.fragment.specs.Heights.{cutOff, through, highest, heightOf, heightIn}
 use Rattle.fragment.proofs.Links.{LeadsOn, nowhere, to-own, to-fragment, leads, known-some, fragment-set-in}

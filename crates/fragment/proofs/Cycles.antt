@@ -12,8 +12,8 @@ use Rattle.tables.specs.Layout.{fragments, sets}
 use Rattle.tables.specs.Image.{countAt}
 use Rattle.tables.specs.Columns.{fragmentSet}
 use Rattle.tables.specs.Good.{Good}
-use Rattle.variable.specs.Reach.{Leads, Reaches, itself, onward, SpreadFrom}
-use Rattle.variable.proofs.ReachMeaning.{marked-spread, spread-marked}
+use Rattle.reach.specs.Reach.{Leads, Reaches, itself, onward, SpreadFrom}
+use Rattle.reach.proofs.ReachMeaning.{marked-spread, spread-marked}
 use Rattle.fragment.specs.Chains.{Link}
 use Rattle.fragment.specs.Rise.{RisesTo}
 use Rattle.fragment.specs.Rules.{isSpreadFrom, ownSet, reachesItself}

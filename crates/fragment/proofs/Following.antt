@@ -10,8 +10,8 @@ use Rattle.tables.specs.Layout.{fragments, sets}
 use Rattle.tables.specs.Image.{countAt}
 use Rattle.tables.specs.Columns.{spread, selectionKind, selectionTarget, fragmentSet}
 use Rattle.tables.specs.Good.{Good, StandsIn}
-use Rattle.variable.specs.Reach.{Reaches, itself, onward, SpreadsIn, SpreadFrom}
-use Rattle.variable.proofs.ReachMeaning.{stands-row, spread-leads}
+use Rattle.reach.specs.Reach.{Reaches, itself, onward, SpreadsIn, SpreadFrom}
+use Rattle.reach.proofs.ReachMeaning.{stands-row, spread-leads}
 use Rattle.fragment.specs.Chains.{below}
 use Rattle.fragment.specs.Rules.{ownSet}
 use Rattle.fragment.specs.Meaning.{Inside, at-top, deeper, Follows, one, more}

@@ -12,7 +12,7 @@ use Rattle.tables.specs.Image.{countAt}
 use Rattle.tables.specs.Columns.{field, spread, selectionKind, selectionTarget, fragmentSet}
 use Rattle.tables.specs.Good.{Good, StandsIn, GoodOwned}
 use Rattle.tables.proofs.ColumnLaws.{below-spread, below-own}
-use Rattle.variable.proofs.ReachMeaning.{few-sets, stands-row}
+use Rattle.reach.proofs.ReachMeaning.{few-sets, stands-row}
 use Rattle.fragment.specs.Chains.{below, isSpread}
 
 -- where a selection of set s leads

@@ -20,7 +20,7 @@ use Rattle.tables.specs.Image.{countAt, rowIn}
 use Rattle.tables.specs.Columns.{setSelections, selectionAt, setBelow, fragmentSet}
 use Rattle.tables.specs.declared.columns.Selection.{Selection}
 use Rattle.tables.specs.Good.{Good}
-use Rattle.variable.proofs.ReachMeaning.{stands-member}
+use Rattle.reach.proofs.ReachMeaning.{stands-member}
 use Rattle.fragment.specs.declared.heights.Height.{Height}
 use Rattle.fragment.specs.Chains.{below, Link, Sound}
 use Rattle.fragment.specs.Heights.{mostChain}

@@ -13,7 +13,7 @@ use Rattle.tables.specs.Image.{countAt, rowIn}
 use Rattle.tables.specs.Columns.{setSelections, selectionAt, setBelow}
 use Rattle.tables.specs.declared.columns.Selection.{Selection}
 use Rattle.tables.specs.Good.{Good}
-use Rattle.variable.proofs.ReachMeaning.{stands-member}
+use Rattle.reach.proofs.ReachMeaning.{stands-member}
 use Rattle.fragment.specs.Chains.{below}
 use Rattle.fragment.specs.Rise.{placeAt, riseOf, riseIn, highestRise, RisesTo}
 use Rattle.fragment.specs.Walks.{HeightsKept}

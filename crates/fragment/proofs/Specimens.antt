@@ -3,8 +3,8 @@ use mathlib.Core.Path.{_≡_, refl}
 use mathlib.Core.List.{map}
 use Rattle.tables.specs.Columns.{setBelow}
 use Rattle.tables.proofs.Computing as tables
-use Rattle.variable.specs.Turns.{turns}
-use Rattle.variable.specs.Reach.{queueSet, markSet, enterSet, walkSelection, walkSet, walkQueue, noneMet, startSets, reachedFrom}
+use Rattle.reach.specs.Turns.{turns}
+use Rattle.reach.specs.Reach.{queueSet, markSet, enterSet, walkSelection, walkSet, walkQueue, noneMet, startSets, reachedFrom}
 use Rattle.fragment.specs.Chains.{isSpread, isNesting}
 use Rattle.fragment.specs.Heights.{through, highest, heightIn, spreadsFrom, linksFrom, nestedFrom}
 use Rattle.fragment.specs.Rules.{lowest, isSpreadFrom, reachesItself, startsLongChain, hasManyLinks, nestsDeep, isUnused, cycleFault, chainFault, linksFault, nestingFault, unusedFault, fragmentsFault}

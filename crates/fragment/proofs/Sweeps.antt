@@ -19,7 +19,7 @@ use Rattle.tables.specs.Layout.{NONE, sets}
 use Rattle.tables.specs.Image.{countAt, rowIn}
 use Rattle.tables.specs.Columns.{setSelections, isFragmentSet}
 use Rattle.tables.specs.Good.{Good, StandsIn}
-use Rattle.variable.proofs.ReachMeaning.{member-stands}
+use Rattle.reach.proofs.ReachMeaning.{member-stands}
 use Rattle.fragment.specs.declared.heights.Height.{Height}
 use Rattle.fragment.specs.Chains.{below, Link, Sound}
 use Rattle.fragment.specs.Heights.{through, highest, heightOf}

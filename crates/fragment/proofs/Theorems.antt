@@ -16,8 +16,8 @@ use Rattle.tables.specs.Layout.{operations, fragments, sets}
 use Rattle.tables.specs.Image.{countAt}
 use Rattle.tables.specs.Columns.{fragmentSet}
 use Rattle.tables.specs.Good.{Good}
-use Rattle.variable.specs.Reach.{Reaches, itself, onward}
-use Rattle.variable.proofs.ReachMeaning.{marked-spread, spread-marked}
+use Rattle.reach.specs.Reach.{Reaches, itself, onward}
+use Rattle.reach.proofs.ReachMeaning.{marked-spread, spread-marked}
 use Rattle.fragment.specs.Chains.{isSpread, weigh, isLink, nests, Link, Chain, link, AtLeast}
 use Rattle.fragment.specs.Heights.{mostChain, mostLinks, mostNested, heightIn, enough, spreadsFrom, linksFrom, nestedFrom}
 use Rattle.fragment.specs.Rounds.{ShortChains}

@@ -8,8 +8,8 @@ use lib.ListN.{length, getD}
 use Rattle.tables.specs.Layout.{fragments}
 use Rattle.tables.specs.Image.{countAt}
 use Rattle.tables.specs.Good.{Good}
-use Rattle.variable.specs.Reach.{onward, SpreadsIn}
-use Rattle.variable.proofs.ReachMeaning.{spread-leads}
+use Rattle.reach.specs.Reach.{onward, SpreadsIn}
+use Rattle.reach.proofs.ReachMeaning.{spread-leads}
 use Rattle.fragment.specs.Meaning.{Spreads, Follows, one, more, NoCycles, AllSpread, Reached, AllReached}
 use Rattle.fragment.proofs.Following.{reaches-trans, inside-reaches}
 use Rattle.fragment.proofs.Owners.{Owner, of-operation, of-fragment, owner}

@@ -11,8 +11,8 @@ use borrow.Author.Tests.{eqb-true}
 use Rattle.tables.specs.Layout.{operations, sets}
 use Rattle.tables.specs.Image.{countAt}
 use Rattle.tables.specs.Good.{Good}
-use Rattle.variable.specs.Reach.{onward, ReachedFrom}
-use Rattle.variable.proofs.ReachMeaning.{marked-spread, spread-leads}
+use Rattle.reach.specs.Reach.{onward, ReachedFrom}
+use Rattle.reach.proofs.ReachMeaning.{marked-spread, spread-leads}
 use Rattle.fragment.specs.Rules.{Refusal, refusal, operationSets, isSpreadFrom, isUnused, unusedFault, fragmentsFault}
 use Rattle.fragment.specs.Meaning.{Lowest, Absent, Finds, cycle, chain, links, nesting, unused, nothing, AllReached, AllSpread}
 use Rattle.fragment.proofs.RuleLaws.{none-failed}

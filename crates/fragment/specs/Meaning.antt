@@ -10,7 +10,7 @@ use Rattle.tables.specs.Layout.{operations, fragments, sets}
 use Rattle.tables.specs.Image.{countAt}
 use Rattle.tables.specs.Columns.{spread, selectionKind, selectionTarget, fragmentSet}
 use Rattle.tables.specs.Good.{StandsIn}
-use Rattle.variable.specs.Reach.{SpreadsIn, SpreadFrom}
+use Rattle.reach.specs.Reach.{SpreadsIn, SpreadFrom}
 use Rattle.fragment.specs.Chains.{isSpread, isLink, nests, Link, AtLeast}
 use Rattle.fragment.specs.Heights.{mostChain, mostLinks, mostNested}
 use Rattle.fragment.specs.Rules.{Refusal, refusal, operationSets}

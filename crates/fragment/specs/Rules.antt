@@ -14,7 +14,7 @@ use Rattle.tables.specs.Layout.{operations, fragments, sets}
 use Rattle.tables.specs.Image.{countAt}
 use Rattle.tables.specs.Columns.{fragmentSet}
 use Rattle.tables.specs.declared.Range.{Range}
-use Rattle.variable.specs.Reach.{reachedFrom, led}
+use Rattle.reach.specs.Reach.{reachedFrom, led}
 use Rattle.fragment.specs.declared.rules.Fragments.{Fragments}
 use Rattle.fragment.specs.declared.rules.Fragments.the-variants.{Good, Wrong}
 use Rattle.fragment.specs.Heights.{mostChain, mostLinks, mostNested, spreadsFrom, linksFrom, nestedFrom}

@@ -10,7 +10,7 @@ use Rattle.tables.specs.Layout.{fragments, sets}
 use Rattle.tables.specs.Image.{countAt}
 use Rattle.tables.specs.Good.{Good}
 use Rattle.tables.specs.declared.Range.{Range}
-use Rattle.variable.specs.Reach.{reachedFrom}
+use Rattle.reach.specs.Reach.{reachedFrom}
 use Rattle.fragment.specs.Rounds.{Measured}
 use Rattle.fragment.specs.Rules.{fragmentsWords, reachesItself}
 

@@ -20,8 +20,8 @@ use Rattle.tables.specs.Image.{countAt}
 use Rattle.tables.specs.Columns.{fieldType, fieldArguments, selectionAt, setBelow}
 use Rattle.tables.specs.Good.{Good}
 use Rattle.tables.proofs.ColumnLaws.{stands-below}
-use Rattle.variable.proofs.ReachMeaning.{few-sets}
-use Rattle.variable.specs.Reach as reach
+use Rattle.reach.proofs.ReachMeaning.{few-sets}
+use Rattle.reach.specs.Reach as reach
 use Rattle.fragment.specs.Rules as fragment
 use Rattle.fragment.specs.Meaning.{AllReached, AllSpread}
 use Rattle.fragment.proofs.Whole.{all-reached, all-spread, every-set}

@@ -18,7 +18,7 @@ use Rattle.tables.specs.Image.{countAt}
 use Rattle.tables.specs.Columns.{selectionAt, setSelections, setBelow}
 use Rattle.tables.specs.Good.{Good, StandsIn}
 use Rattle.tables.proofs.ColumnLaws.{stands, stands-below}
-use Rattle.variable.specs.Reach as reach
+use Rattle.reach.specs.Reach as reach
 use Rattle.fragment.specs.Chains.{Link}
 use Rattle.fragment.specs.Heights.{linksFrom}
 use Rattle.fragment.specs.Rules.{fragmentsFault}

@@ -17,8 +17,8 @@ use Rattle.tables.specs.declared.Range.{Range}
 use Rattle.tables.specs.Layout.{NONE, values}
 use Rattle.tables.specs.Image.{countAt, rowIn}
 use Rattle.tables.proofs.Ranges.{row-in}
-use Rattle.variable.specs.Turns.{turns}
-use Rattle.variable.specs.Reach.{RowOf}
+use Rattle.reach.specs.Turns.{turns}
+use Rattle.reach.specs.Reach.{RowOf}
 use Rattle.variable.specs.Uses.{Uses, furthest, reachRange}
 
 -- row r lies before the end of a row at it or before

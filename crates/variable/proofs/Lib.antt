@@ -1,7 +1,4 @@
 -- The laws that the proofs cite, and that a crate above may.
-pub mod WalkLaws
-pub mod Marks
-pub mod ReachMeaning
 pub mod TypeLaws
 pub mod TypeMeaning
 pub mod NameLaws

@@ -18,12 +18,12 @@ use Rattle.tables.specs.Layout.{operations, fragments, arguments, values, varia
 use Rattle.tables.specs.Image.{countAt}
 use Rattle.tables.specs.Columns.{variable, list, valueKind, valueAtom, valueMembers}
 use Rattle.tables.specs.Good.{Good}
-use Rattle.variable.specs.Turns.{turns}
-use Rattle.variable.specs.Reach.{RowOf}
+use Rattle.reach.specs.Turns.{turns}
+use Rattle.reach.specs.Reach.{RowOf}
 use Rattle.variable.specs.Definitions.{findName}
 use Rattle.variable.specs.Uses.{Uses, Pass, furthest, reachRange, noneUsed, reachArguments, markVariable, useValue, passRow, passBegins, markVariables, usesOf}
 use Rattle.variable.specs.Rules.{UsesArgument, of-operation, of-field, of-selection, of-definition, Inside, whole, member, UsesValue}
-use Rattle.variable.proofs.ReachMeaning.{stands-row}
+use Rattle.reach.proofs.ReachMeaning.{stands-row}
 use Rattle.variable.proofs.Covers.{Covers, covers-of, of-covers, covers-low, endOf, furthest-same, Adds, adds-range, range-elsewhere}
 use Rattle.variable.proofs.UseMeaning.{few-values, arguments-valued, arguments-add, none-long, covered-used, used-covered}
 

@@ -9,8 +9,8 @@ use Rattle.lists.specs.Every.{position}
 use Rattle.tables.specs.Layout.{tablesOf, rowWidth}
 use Rattle.tables.specs.Image.{wordAt, cellAt, rowIn}
 use Rattle.tables.specs.Columns.{isComposite, innermostIn, innermost, fragmentSet, setBelow}
-use Rattle.variable.specs.Turns.{turns}
-use Rattle.variable.specs.Reach.{queueSet, markSet, enterSet, walkSelection, walkSet, walkQueue, noneMet, startSets, reachedFrom}
+use Rattle.reach.specs.Turns.{turns}
+use Rattle.reach.specs.Reach.{queueSet, markSet, enterSet, walkSelection, walkSet, walkQueue, noneMet, startSets, reachedFrom}
 use Rattle.variable.specs.Types.{isNonNull}
 use Rattle.variable.specs.Definitions.{firstOutput, firstRepeated, alike, agreesAt, compatibleIn, compatible, usageAllowed}
 use Rattle.variable.specs.Uses.{furthest, reachRange, reachSelection, reachSet, reachQueue, noneUsed, reachArguments, markVariable, useValue, passRow, markVariables, usesOf, firstUnused, argumentAllowed, allowedBelow, firstMisused}

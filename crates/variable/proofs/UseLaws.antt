@@ -15,12 +15,12 @@ use Rattle.tables.specs.declared.columns.Selection.{Selection}
 use Rattle.tables.specs.Layout.{sets, values, variables}
 use Rattle.tables.specs.Image.{countAt, rowIn}
 use Rattle.tables.specs.Columns.{spread, variable, list, setSelections, selectionAt, selectionKind, selectionTarget, selectionDirectives, fieldArguments, fragmentDirectives, operationDirectives, valueKind, valueAtom, valueMembers}
-use Rattle.variable.specs.Turns.{turns}
-use Rattle.variable.specs.Reach.{Walk, walkWords, reachedFrom, Holds, Walked}
+use Rattle.reach.specs.Turns.{turns}
+use Rattle.reach.specs.Reach.{Walk, walkWords, reachedFrom, Holds, Walked}
 use Rattle.variable.specs.Definitions.{findName}
 use Rattle.variable.specs.Uses.{Uses, Pass, reachRange, reachSelection, reachSet, reachQueue, noneUsed, reachArguments, markVariable, useValue, passRow, passBegins, markVariables, marksAt, namesAt, usesWords, endIn, markIn, Keeps, Steps, Queued, Reached, Passes}
 use Rattle.variable.specs.Names.{Searches}
-use Rattle.variable.proofs.WalkLaws.{turns-more}
+use Rattle.reach.proofs.WalkLaws.{turns-more}
 use Rattle.variable.proofs.NameLaws.{named-kept}
 
 -- a word stored in a part that is stored

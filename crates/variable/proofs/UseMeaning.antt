@@ -15,10 +15,10 @@ use Rattle.tables.specs.Image.{countAt}
 use Rattle.tables.specs.Columns.{spread, operationDirectives, fragmentDirectives, setSelections, selectionKind, selectionTarget, fieldArguments, selectionDirectives}
 use Rattle.tables.specs.Good.{Good, StandsIn}
 use Rattle.tables.proofs.Widths.{most-of}
-use Rattle.variable.specs.Reach.{RowOf, Reaches, itself, onward, ReachedFrom, Among, memberOf, reachedFrom}
+use Rattle.reach.specs.Reach.{RowOf, Reaches, itself, onward, ReachedFrom, Among, memberOf, reachedFrom}
 use Rattle.variable.specs.Uses.{Uses, reachRange, reachSelection, reachSet, reachQueue, noneUsed, reachArguments}
 use Rattle.variable.specs.Rules.{UsesArgument, of-operation, of-field, of-selection, of-definition}
-use Rattle.variable.proofs.ReachMeaning.{few-rows, member-stands, stands-member, stands-row, queued-reached, reached-queued}
+use Rattle.reach.proofs.ReachMeaning.{few-rows, member-stands, stands-member, stands-row, queued-reached, reached-queued}
 use Rattle.variable.proofs.Covers.{Covers, Adds, adds-then, adds-as, InTurn, adds-turns, adds-range}
 
 module _ (image : List ℕ) (good : Good image) where

@@ -16,7 +16,7 @@ use Rattle.tables.specs.declared.Range.{Range}
 use Rattle.tables.specs.Layout.{arguments}
 use Rattle.tables.specs.Image.{countAt, rowIn}
 use Rattle.tables.specs.Columns.{variable, operationVariables, valueKind, valueAtom}
-use Rattle.variable.specs.Reach.{walkWords}
+use Rattle.reach.specs.Reach.{walkWords}
 use Rattle.variable.specs.Definitions.{findName, usageAllowed, firstOutput, firstRepeated}
 use Rattle.variable.specs.Uses.{furthest, usesOf, markVariables, firstUnused, argumentAllowed, allowedBelow, firstMisused, endIn, markIn, usesWords, Keeps, Steps, Reached}
 use Rattle.variable.specs.Verdict.{Shown, usageShows, usesFault, definedFault, Judged}

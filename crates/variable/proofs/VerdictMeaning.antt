@@ -21,7 +21,7 @@ use Rattle.tables.specs.Image.{countAt, rowIn}
 use Rattle.tables.specs.Columns.{variable, operationVariables, valueKind, valueAtom, variableName}
 use Rattle.tables.specs.Good.{Good}
 use Rattle.tables.proofs.Ranges.{row-in}
-use Rattle.variable.specs.Reach.{RowOf}
+use Rattle.reach.specs.Reach.{RowOf}
 use Rattle.variable.specs.Definitions.{nameIn, findName, isOutput, firstOutput, isRepeated, firstRepeated, usageAllowed}
 use Rattle.variable.specs.Uses.{furthest, usesOf, firstUnused, argumentAllowed, allowedBelow, firstMisused}
 use Rattle.variable.specs.Verdict.{Shown, foundIn, usesFault, definedFault, usageFault}

@@ -1,6 +1,4 @@
 -- What the contracts of this crate are written with, and what they mean.
-pub mod Turns
-pub mod Reach
 pub mod Types
 pub mod Definitions
 pub mod Uses

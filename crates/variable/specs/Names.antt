@@ -9,7 +9,7 @@ use Rattle.index.specs.Indexed.{Indexed}
 use Rattle.tables.specs.declared.Range.{Range}
 use Rattle.tables.specs.Layout.{values, variables}
 use Rattle.tables.specs.Image.{countAt}
-use Rattle.variable.specs.Reach.{walkWords}
+use Rattle.reach.specs.Reach.{walkWords}
 use Rattle.variable.specs.Definitions.{nameIn}
 use Rattle.variable.specs.Uses.{namesAt, usesWords}
 

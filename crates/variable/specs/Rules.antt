@@ -9,7 +9,7 @@ use mathlib.Core.Option.{Option, none, some}
 use lib.Dec.{eqb}
 use Rattle.tables.specs.Columns.{variable, list, operationVariables, operationDirectives, fragmentDirectives, fieldArguments, selectionDirectives, argumentType, argumentDefault, valueKind, valueAtom, valueMembers, variableName, variableType, variableDefault}
 use Rattle.tables.specs.Good.{StandsIn}
-use Rattle.variable.specs.Reach.{RowOf, Reaches, SpreadsIn}
+use Rattle.reach.specs.Reach.{RowOf, Reaches, SpreadsIn}
 use Rattle.variable.specs.Types.{isInputType, isVariableUsageAllowed, typeOf, kindAt}
 use Rattle.variable.specs.Verdict.{Shown}
 

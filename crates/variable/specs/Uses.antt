@@ -13,8 +13,8 @@ use Rattle.tables.specs.declared.Range.{Range}
 use Rattle.tables.specs.Layout.{arguments, values, variables}
 use Rattle.tables.specs.Image.{countAt, rowIn}
 use Rattle.tables.specs.Columns.{spread, variable, list, operationDirectives, fragmentDirectives, setSelections, selectionKind, selectionTarget, fieldArguments, selectionDirectives, valueKind, valueAtom, valueMembers}
-use Rattle.variable.specs.Turns.{turns}
-use Rattle.variable.specs.Reach.{Walk, memberOf, reachedFrom, walkWords, Holds}
+use Rattle.reach.specs.Turns.{turns}
+use Rattle.reach.specs.Reach.{Walk, memberOf, reachedFrom, walkWords, Holds}
 use Rattle.variable.specs.Definitions.{findName, usageAllowed}
 
 -- an end for each value row, a mark for each variable

@@ -2,12 +2,12 @@
 // value row how far the reached ranges go that begin there, then a mark for each variable, then those of `names`. Any words may be
 // given.
 use crate::names::find_variable;
-use crate::reach::queued_set;
-use crate::reach::walk_selections_with_deduped_fragments;
 use lists::clear;
 use lists::get;
 use lists::most;
 use lists::put;
+use reach::queued_set;
+use reach::walk_selections_with_deduped_fragments;
 use tables::Range;
 use tables::SETS;
 use tables::VALUES;
@@ -26,7 +26,7 @@ use tables::count;
 use tables::row_in;
 ghost use mathlib.Core.Path.{_≡_};
 ghost use Prim.Native.Nat.{_^_, _<_};
-ghost use Rattle.variable.specs.Reach.{walkWords};
+ghost use Rattle.reach.specs.Reach.{walkWords};
 ghost use Rattle.variable.specs.Uses.{reachRange, reachSelection, reachSet, markVariable, useValue, markVariables, marksAt, endIn, markIn, Steps, Queued, Reached, Passes};
 ghost use Rattle.variable.specs.Names.{Searches};
 

@@ -4,7 +4,7 @@ use Prim.Native.Nat.{_-_, _≤_}
 use native.Mathlib.Omega.{arith}
 use Rattle.variable.specs.Uses.{reachSelection, Steps}
 use Rattle.tables.specs.Image.{rowIn}
-use Rattle.variable.specs.Turns.{turns}
+use Rattle.reach.specs.Turns.{turns}
 use Rattle.variable.proofs.UseLaws.{steps-none, steps-turn, set-reached}
 use Rattle.variable.proofs.uses.reach_set.Statement.{statement}
 use Rattle.variable.proofs.uses.reach_set.Tie as tie
