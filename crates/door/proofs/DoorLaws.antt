@@ -5,7 +5,7 @@ use mathlib.Core.List.{List, [], _∷_, _++_, append-nil, append-assoc}
 use native.Mathlib.Omega.{arith}
 use borrow.Author.Tests.{le-leb, lt-leb, eq-eqb, ne-eqb}
 use lib.ListN.{length, take, drop, set, length-append, drop-of-length-le}
-use lib.Seq.{drop-drop}
+use lib.Seq.{drop-drop, take-at, drop-at}
 use Rattle.lists.specs.Part.{part, write}
 use Rattle.lists.proofs.Parts.{part-write}
 use Rattle.tables.specs.Layout.{NONE}
@@ -54,21 +54,13 @@ words-checked bytes words words′ n budget long {r} room few own read e =
 
 -- ---- the reply's five words, and their bytes
 
-take-front : (xs ys : List ℕ) → take (length xs) (xs ++ ys) ≡ xs
-take-front [] ys = refl
-take-front (x ∷ xs) ys = ap (λ (l : List ℕ). x ∷ l) (take-front xs ys)
-
-drop-front : (xs ys : List ℕ) → drop (length xs) (xs ++ ys) ≡ ys
-drop-front [] ys = refl
-drop-front (x ∷ xs) ys = drop-front xs ys
-
 -- a write behind the first words, which are xs
 write-behind : (s xs ys : List ℕ) → write (xs ++ drop (length xs) s) (length xs) ys ≡ (xs ++ ys) ++ drop (length xs + length ys) s
 unfolding write
 write-behind s xs ys =
     let rest : drop (length xs + length ys) (xs ++ drop (length xs) s) ≡ drop (length xs + length ys) s =
-    sym (drop-drop (length ys) (length xs) (xs ++ drop (length xs) s)) ∙ ap (drop (length ys)) (drop-front xs (drop (length xs) s)) ∙ drop-drop (length ys) (length xs) s in
-    rw (take-front xs (drop (length xs) s), rest, append-assoc xs ys (drop (length xs + length ys) s)) refl
+    sym (drop-drop (length ys) (length xs) (xs ++ drop (length xs) s)) ∙ ap (drop (length ys)) (drop-at xs (drop (length xs) s) (length xs) refl) ∙ drop-drop (length ys) (length xs) s in
+    rw (take-at xs (drop (length xs) s) (length xs) refl, rest, append-assoc xs ys (drop (length xs + length ys) s)) refl
 
 five-stored : (s : List ℕ) (r : Reply) → length s ≡ 20
     → write (write (write (write (write s 0 (bytesOf (r .kind))) 4 (bytesOf (r .operation))) 8 (bytesOf (r .a))) 12 (bytesOf (r .b))) 16 (bytesOf (r .used)) ≡ replyBytes r

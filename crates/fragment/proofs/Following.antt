@@ -11,15 +11,11 @@ use Rattle.tables.specs.Image.{countAt}
 use Rattle.tables.specs.Columns.{spread, selectionKind, selectionTarget, fragmentSet}
 use Rattle.tables.specs.Good.{Good, StandsIn}
 use Rattle.reach.specs.Reach.{Reaches, itself, onward, SpreadsIn, SpreadFrom}
-use Rattle.reach.proofs.ReachMeaning.{stands-row, spread-leads}
+use Rattle.reach.proofs.ReachMeaning.{reaches-trans, stands-row, spread-leads}
 use Rattle.fragment.specs.Chains.{below}
 use Rattle.fragment.specs.Rules.{ownSet}
 use Rattle.fragment.specs.Meaning.{Inside, at-top, deeper, Follows, one, more}
 use Rattle.tables.proofs.ColumnLaws.{below-spread, below-own}
-
-pub reaches-trans : {image : List ℕ} {s t u : ℕ} → Reaches image s t → Reaches image t u → Reaches image s u
-reaches-trans p itself = p
-reaches-trans p (onward q l) = onward (reaches-trans p q) l
 
 pub inside-reaches : {image : List ℕ} {s t : ℕ} → Inside image s t → Reaches image s t
 inside-reaches at-top = itself

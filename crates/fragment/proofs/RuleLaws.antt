@@ -1,5 +1,5 @@
 -- A law for each way out of the code of kinds 5 to 9, and what `lowest` says. Assumes nothing.
-use Prim.Native.Nat.{ℕ, zero, suc, _<_, _≤_, zero-le, suc-le-suc}
+use Prim.Native.Nat.{ℕ, _<_, _≤_}
 use mathlib.Core.Path.{_≡_, refl, sym, ap, _∙_}
 use mathlib.Core.Bool.{Bool, true, false}
 use mathlib.Core.List.{List}
@@ -10,7 +10,7 @@ use borrow.Author.Tests.{le-leb, lt-leb, leb-true, leb-false}
 use lib.Dec.{leb, ltb}
 use Rattle.lists.specs.Every.{position}
 use Rattle.lists.specs.First.{expect, _▷_}
-use Rattle.lists.proofs.EveryLaws.{position-found, position-none, before-position}
+use Rattle.lists.proofs.EveryLaws.{position-cong, position-found, position-none, before-position}
 use Rattle.lists.proofs.FirstLaws.{passed}
 use Rattle.tables.specs.Layout.{operations, fragments}
 use Rattle.tables.specs.Image.{countAt}
@@ -31,12 +31,6 @@ module _ (m : ℕ) (p : ℕ → Bool) {n : ℕ} (all : n ≡ m) where
 
   pub stops-nowhere : ((k : ℕ) → k < n → p k ≡ false) → n ≡ position m p
   stops-nowhere none-there = all ∙ sym (position-none m p (λ k l. none-there k (omega arith)))
-
-pub position-cong : (n : ℕ) (p q : ℕ → Bool) → ((k : ℕ) → k < n → p k ≡ q k) → position n p ≡ position n q
-unfolding position
-position-cong zero p q h = refl
-position-cong (suc n) p q h =
-    rw (h zero (suc-le-suc zero-le), position-cong n (λ k. p (suc k)) (λ k. q (suc k)) (λ k l. h (suc k) (suc-le-suc l)))
 
 -- a search that ended past the last found none
 pub none-passed : (n : ℕ) (p : ℕ → Bool) {m q : ℕ} → m ≡ n → q ≡ position n p → m ≤ q → (k : ℕ) → k < n → p k ≡ false

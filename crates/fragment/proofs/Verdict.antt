@@ -9,9 +9,9 @@ use Rattle.tables.specs.Layout.{fragments}
 use Rattle.tables.specs.Image.{countAt}
 use Rattle.tables.specs.Good.{Good}
 use Rattle.reach.specs.Reach.{onward, SpreadsIn}
-use Rattle.reach.proofs.ReachMeaning.{spread-leads}
+use Rattle.reach.proofs.ReachMeaning.{reaches-trans, spread-leads}
 use Rattle.fragment.specs.Meaning.{Spreads, Follows, one, more, NoCycles, AllSpread, Reached, AllReached}
-use Rattle.fragment.proofs.Following.{reaches-trans, inside-reaches}
+use Rattle.fragment.proofs.Following.{inside-reaches}
 use Rattle.fragment.proofs.Owners.{Owner, of-operation, of-fragment, owner}
 use Rattle.fragment.proofs.Pigeons.{pigeons}
 

@@ -12,11 +12,11 @@ use Rattle.tables.specs.Layout.{operations, sets}
 use Rattle.tables.specs.Image.{countAt}
 use Rattle.tables.specs.Good.{Good}
 use Rattle.reach.specs.Reach.{onward, ReachedFrom}
-use Rattle.reach.proofs.ReachMeaning.{marked-spread, spread-leads}
+use Rattle.reach.proofs.ReachMeaning.{reaches-trans, marked-spread, spread-leads}
 use Rattle.fragment.specs.Rules.{Refusal, refusal, operationSets, isSpreadFrom, isUnused, unusedFault, fragmentsFault}
 use Rattle.fragment.specs.Meaning.{Lowest, Absent, Finds, cycle, chain, links, nesting, unused, nothing, AllReached, AllSpread}
 use Rattle.fragment.proofs.RuleLaws.{none-failed}
-use Rattle.fragment.proofs.Following.{reaches-trans, inside-reaches}
+use Rattle.fragment.proofs.Following.{inside-reaches}
 use Rattle.fragment.proofs.Owners.{Owner, of-operation, of-fragment, owner}
 use Rattle.fragment.proofs.Verdict.{reached-spread}
 use Rattle.fragment.proofs.Theorems.{fragments-decided}

@@ -1,7 +1,7 @@
 -- The laws of first places that are told while the places are linked. Assumes nothing.
 use mathlib.Core.Path.{_≡_, refl, sym, ap, _∙_}
 use mathlib.Core.Logic.{_⊎_, inl, inr, ⊎-elim}
-use mathlib.Core.Bool.{Bool, false}
+use mathlib.Core.Bool.{false}
 use mathlib.Core.List.{List}
 use Prim.Native.Nat.{ℕ, _+_, _*_, _≤_, _<_}
 use native.Mathlib.Omega.{arith}
@@ -9,9 +9,9 @@ use borrow.Author.Tests.{eq-eqb, leb-false}
 use lib.Dec.{eqb, leb}
 use lib.ListN.{length, getD, set, length-set, List·getD-eq-default}
 use lib.Seq.{getD-set-other, getD-set-same}
-use Rattle.lists.specs.Every.{position, find}
+use Rattle.lists.specs.Every.{find}
 use Rattle.lists.specs.Part.{Outside}
-use Rattle.lists.proofs.EveryLaws.{position-found, position-none, position-le, position-passes, before-position}
+use Rattle.lists.proofs.EveryLaws.{position-cong, position-found}
 use Rattle.lists.proofs.Parts.{le-or-lt, set-outside}
 use Rattle.index.specs.declared.Index.{Index}
 use Rattle.index.specs.Indexed.{keyAt, firstPlace, wordsOf, Linked, Links, Apart, Firsts, Built}
@@ -19,24 +19,8 @@ use Rattle.index.proofs.IndexLaws.{linked-kept}
 
 -- ---- keys that agree
 
--- tests that agree have one first number that passes
-pub position-agrees : (n : ℕ) (p q : ℕ → Bool) → ((k : ℕ) → k < n → p k ≡ q k) → position n p ≡ position n q
-position-agrees n p q same = go (le-or-lt n (position n p))
-  where
-    le : position n p ≤ n
-    le = position-le n p
-
-    fails : (k : ℕ) → k < position n p → q k ≡ false
-    fails k l = sym (same k (omega (arith, le))) ∙ before-position n p k l
-
-    go : (n ≤ position n p) ⊎ (position n p < n) → position n p ≡ position n q
-    go (inl over) =
-        let is : position n p ≡ n = omega (arith, le) in
-        is ∙ sym (position-none n q (λ k l. fails k (omega (arith, is))))
-    go (inr less) = sym (position-found n q (position n p) less fails (sym (same (position n p) less) ∙ position-passes n p less))
-
 pub keys-agree : (n : ℕ) (f g : ℕ → ℕ) → ((k : ℕ) → k < n → f k ≡ g k) → (r : ℕ) → r < n → find n f (f r) ≡ find n g (g r)
-keys-agree n f g same r l = position-agrees n _ _ (λ k h. rw (same k h, same r l))
+keys-agree n f g same r l = position-cong n _ _ (λ k h. rw (same k h, same r l))
 
 firsts-agree : (s t : List ℕ) (index : Index) → ((k : ℕ) → k < index .count → keyAt t index k ≡ keyAt s index k) → (k : ℕ) → k < index .count
     → firstPlace t index (keyAt t index k) ≡ firstPlace s index (keyAt s index k)

@@ -15,6 +15,11 @@ use lib.Dec.{eqb}
 use Rattle.lists.specs.Every.{every, position, total, find, absent, distinct, Distinct}
 use Rattle.lists.proofs.Tests.{both, first-of, second-of, not-true, not-false}
 
+-- where all numbers below m are below n, m is n at most
+pub all-below : (m n : ℕ) → ((k : ℕ) → k < m → k < n) → m ≤ n
+all-below zero n h = zero-le
+all-below (suc m) n h = h m (le-refl _)
+
 -- `every` passes if each number does
 pub every-intro : (n : ℕ) (p : ℕ → Bool) → ((k : ℕ) → k < n → p k ≡ true) → every n p ≡ true
 unfolding every
@@ -42,6 +47,12 @@ unfolding every
 every-cong zero p q h = refl
 every-cong (suc n) p q h =
     rw (h zero (suc-le-suc zero-le), every-cong n (λ k. p (suc k)) (λ k. q (suc k)) (λ k l. h (suc k) (suc-le-suc l)))
+
+pub position-cong : (n : ℕ) (p q : ℕ → Bool) → ((k : ℕ) → k < n → p k ≡ q k) → position n p ≡ position n q
+unfolding position
+position-cong zero p q h = refl
+position-cong (suc n) p q h =
+    rw (h zero (suc-le-suc zero-le), position-cong n (λ k. p (suc k)) (λ k. q (suc k)) (λ k l. h (suc k) (suc-le-suc l)))
 
 -- a number that passes, below which none does, is the position
 pub position-found : (n : ℕ) (p : ℕ → Bool) (i : ℕ) → i < n → ((k : ℕ) → k < i → p k ≡ false) → p i ≡ true → position n p ≡ i

@@ -4,4 +4,3 @@ pub mod FirstLaws
 pub mod EveryLaws
 pub mod Parts
 pub mod Loans
-pub mod SameLaws

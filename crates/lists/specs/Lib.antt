@@ -2,4 +2,3 @@
 pub mod First
 pub mod Every
 pub mod Part
-pub mod Same

@@ -1,10 +1,9 @@
-// Words in a lent slice: total reads and stores, and the loops that clear, copy or compare many.
+// Words in a lent slice: total reads and stores, and the loop that clears many.
 // No function has a `requires`: a place past the end reads as 0, and a store there does nothing.
 ghost use mathlib.Core.Path.{_≡_};
 ghost use Prim.Native.Nat.{_+_, _-_, min, max};
-ghost use lib.ListN.{length, getD, set, take, replicate};
+ghost use lib.ListN.{length, getD, set, replicate};
 ghost use Rattle.lists.specs.Part.{write};
-ghost use Rattle.lists.specs.Same.{same};
 
 // The word at a place; 0 past the end.
 pub fn get(s: &[u32], at: usize) -> u32
@@ -55,33 +54,4 @@ pub fn clear(s: &mut [u32], at: usize, n: usize)
         s[at + i] = 0;
         i += 1;
     }
-}
-
-// The words of `from`, or as many as there is room for, go to the front of `to`.
-pub fn copy(to: &mut [u32], from: &[u32])
-    ensures { λ _. ⌜ now (to .exit) ≡ write (now (to .entry)) 0 (take (min (length (now (from .entry))) (length (now (to .entry)))) (now (from .entry))) ⌝ }
-{
-    let words = words_left(to.len(), 0, from.len());
-    let mut i = 0;
-    while i < words {
-        to[i] = from[i];
-        i += 1;
-    }
-}
-
-// Whether two slices hold the same words.
-pub fn same_words(x: &[u32], y: &[u32]) -> bool
-    ensures { λ r. ⌜ r ≡ same (now (x .entry)) (now (y .entry)) ⌝ }
-{
-    if x.len() != y.len() {
-        return false;
-    }
-    let mut i = 0;
-    while i < x.len() {
-        if x[i] != y[i] {
-            return false;
-        }
-        i += 1;
-    }
-    true
 }

@@ -1,7 +1,7 @@
 -- Laws for code that goes up a list and has done a front of it: each function of the walk at `front ++ rest`. Assumes nothing.
 -- (`queued` and `marked` have theirs in QueueLaws.)
 use mathlib.Core.Path.{_≡_, refl, sym, ap, _∙_}
-use mathlib.Core.Bool.{Bool, true, false, not, _||_}
+use mathlib.Core.Bool.{Bool, true, false, not, _||_, or-assoc}
 use mathlib.Core.Option.{Option, none, some}
 use mathlib.Core.List.{List, [], _∷_, _++_, append-assoc, map}
 use Prim.Native.Nat.{ℕ}
@@ -61,15 +61,11 @@ pub keysOf-snoc : (key : ℕ → ℕ) (fields : List ℕ) (f : ℕ)
 unfolding keysOf
 keysOf-snoc key fields f = ap distinct (map-append key fields (f ∷ [])) ∙ distinct-snoc (map key fields) (key f)
 
-or-assoc : (a b c : Bool) → (a || (b || c)) ≡ ((a || b) || c)
-or-assoc true b c = refl
-or-assoc false b c = refl
-
 pub isKnown-append : (l : List ℕ) (ks more : List (List ℕ)) → isKnown l (ks ++ more) ≡ (isKnown l ks || isKnown l more)
 unfolding isKnown
 isKnown-append l [] more = refl
 isKnown-append l (k ∷ ks) more =
-    ap (λ b. sameList l k || b) (isKnown-append l ks more) ∙ or-assoc (sameList l k) (isKnown l ks) (isKnown l more)
+    ap (λ b. sameList l k || b) (isKnown-append l ks more) ∙ sym (or-assoc (sameList l k) (isKnown l ks) (isKnown l more))
 
 -- ---- steps
 

@@ -2,13 +2,13 @@
 use Prim.Native.Nat.{ℕ, _+_, _-_, _≤_, min}
 use mathlib.Core.Path.{_≡_, refl, sym, ap, _∙_}
 use mathlib.Core.Bool.{Bool, true, false}
-use mathlib.Core.List.{List, [], _∷_, _++_}
+use mathlib.Core.List.{List, _++_}
 use mathlib.Core.Option.{Option, none, some}
 use native.Mathlib.Omega.{arith}
 use borrow.Author.Tests.{leb-true}
 use lib.Dec.{leb}
 use lib.ListN.{length, take, drop, replicate, length-append, length-replicate}
-use lib.Seq.{length-take-le}
+use lib.Seq.{length-take-le, drop-at}
 use Rattle.lists.specs.First.{expect, _▷_}
 use Rattle.lists.specs.Part.{write}
 use Rattle.lists.proofs.Parts.{length-write}
@@ -36,10 +36,6 @@ use Rattle.query.specs.declared.refuse.Refused.the-variants as refusing
 use Rattle.query.specs.Operation.{Ready, CheckedAll}
 use Rattle.query.specs.Judging.{Room, Fits, JudgesDocument, JudgesImage, JudgesAll}
 use Rattle.query.proofs.Sizes.{nine-counts}
-
-drop-front : (xs ys : List ℕ) → drop (length xs) (xs ++ ys) ≡ ys
-drop-front [] ys = refl
-drop-front (x ∷ xs) ys = drop-front xs ys
 
 module _ {image : List ℕ} {work : ℕ} where
   -- ---- the words needed cover what each rule is lent
@@ -120,7 +116,7 @@ module _ (image : List ℕ) (work : ℕ) where
   all-clear s ys n e room back =
       let size : min n (length (ys ++ drop n s) - 0) ≡ length ys = omega (arith, length-append ys (drop n s)) in
       let fill : 0 + length {A = ℕ} (replicate (length ys) 0) ≡ length ys = omega (arith, length-replicate {A = ℕ} (length ys) 0) in
-      rw (← e, size, fill, drop-front ys (drop n s)) (ap (λ (k : ℕ). replicate k 0 ++ drop n s) back)
+      rw (← e, size, fill, drop-at ys (drop n s) (length ys) refl) (ap (λ (k : ℕ). replicate k 0 ++ drop n s) back)
 
   -- so the stages have room in what is lent
   pub room-lent : (s : List ℕ) (n : ℕ) → refused image work (length s) ≡ none → n ≡ scratchNeeded image work → Room image work (length (take n s))

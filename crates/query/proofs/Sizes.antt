@@ -11,7 +11,8 @@ use Rattle.tables.specs.Image.{wordAt, countAt}
 use Rattle.tables.specs.Header.{headerShows, headerFault}
 use Rattle.tables.specs.declared.header.Header.{Header}
 use Rattle.tables.specs.declared.header.Header.the-variants.{Wrong}
-use Rattle.tables.proofs.Tidy.{nine-exactly, nine-tables, good-header, no-limit-over}
+use Rattle.tables.proofs.Tidy.{nine-exactly, good-header}
+use Rattle.tables.proofs.Counts.{limitOf, few-rows}
 use Rattle.query.specs.Needed.{mostWork, rowsInAll, scratchNeeded}
 use Rattle.query.specs.Reply.{answer, refused}
 use Rattle.query.specs.Refusing.{sizesFault}
@@ -22,9 +23,8 @@ unfolding rowsInAll total
 nine-counts image = rw (nine-exactly (wordAt image 0)) (omega arith)
 
 module _ (image : List ℕ) (good : headerFault image ≡ none) where
-  few-in : (t : ℕ) → t < 9 → countAt image t ≤ 16384
-  few-in t h =
-      omega (arith, good-header image good .few t (omega (arith, nine-tables (wordAt image 0))), no-limit-over (wordAt image 0) t)
+  few-in : (t : ℕ) → t < 9 → countAt image t ≤ limitOf t
+  few-in = few-rows image (good-header image good .few)
 
   pub few-in-all : rowsInAll image ≤ 9 * 16384
   few-in-all =

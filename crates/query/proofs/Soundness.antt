@@ -1,19 +1,16 @@
 -- A good image without causes of kinds 5 to 8 is a sound document, at every operation: the comparisons of fields are equivalences, and
 -- the number of links from a set falls along every link and stays below the limit. Assumes nothing.
 use Prim.Native.Nat.{ℕ, _<_}
-use mathlib.Core.Path.{_≡_, refl, sym, _∙_}
-use mathlib.Core.Bool.{Bool, true, false, cond}
-use mathlib.Core.List.{List, [], _∷_}
+use mathlib.Core.Path.{_≡_}
+use mathlib.Core.Bool.{Bool}
+use mathlib.Core.List.{List}
 use mathlib.Core.Option.{none, some}
 use native.Mathlib.Omega.{arith}
-use borrow.Author.Tests.{eqb-false}
-use lib.Dec.{eqb}
 use Rattle.lists.proofs.FirstLaws.{first-none, next-none}
-use Rattle.merge_theory.specs.Lists.{_∈_, here, there}
-use Rattle.merge_theory.specs.Document.{setOf, listed, Equivalence, FieldAt, field-at, Sound}
+use Rattle.merge_theory.specs.Lists.{_∈_}
+use Rattle.merge_theory.specs.Document.{setOf, Equivalence, FieldAt, field-at, Sound}
 use Rattle.merge_theory.specs.Rule.{Reached, start, onward}
-use Rattle.merge_theory.proofs.ListLaws.{not-in-nil}
-use Rattle.tables.specs.Layout.{NONE, operations, sets, selections}
+use Rattle.tables.specs.Layout.{operations, sets, selections}
 use Rattle.tables.specs.Image.{countAt}
 use Rattle.tables.specs.Columns.{selectionAt, setSelections, setBelow}
 use Rattle.tables.specs.Good.{Good, StandsIn}
@@ -29,22 +26,9 @@ use Rattle.values.specs.Equivalence as values
 use Rattle.values.proofs.FieldLaws as fields
 use Rattle.values.specs.Same.{sameArguments}
 use Rattle.values.specs.Shape.{sameShape}
-use Rattle.selection.specs.ImageDocument.{linkFrom, documentBy}
-use Rattle.selection.proofs.DocumentLaws.{up-from, field-by-kind}
+use Rattle.selection.specs.ImageDocument.{documentBy}
+use Rattle.selection.proofs.DocumentLaws.{up-from, link-is, field-by-kind}
 use Rattle.query.specs.Reply.{documentOf}
-
--- a link to a set is no link to NONE
-linked : (v : ℕ) {u : ℕ} → u ∈ listed (linkFrom v) → (v ≡ u) × (u ≡ NONE → ⊥)
-unfolding linkFrom
-linked v {u} m = by-none (eqb v NONE) refl m
-  where
-    only-one : eqb v NONE ≡ false → u ∈ (v ∷ []) → (v ≡ u) × (u ≡ NONE → ⊥)
-    only-one is-set (here e) = (sym e, λ q. eqb-false v NONE is-set (sym e ∙ q))
-    only-one is-set (there n) = absurd (not-in-nil n)
-
-    by-none : (b : Bool) → eqb v NONE ≡ b → u ∈ listed (cond b none (some v)) → (v ≡ u) × (u ≡ NONE → ⊥)
-    by-none true e n = absurd (not-in-nil n)
-    by-none false e n = only-one e n
 
 module _ {image : List ℕ} (good : Good image) where
   -- the rows of a set that is there stand in it
@@ -60,7 +44,7 @@ module _ {image : List ℕ} (good : Good image) where
   a-link : {s row t : ℕ} → s < countAt image sets → row ∈ documentOf image .rowsOf s → t ∈ setOf (documentOf image) row → Link image s row t
   unfolding documentBy setOf
   a-link {row = row} known m l =
-      let to = linked (setBelow image (selectionAt image row)) l in
+      let to = link-is (setBelow image (selectionAt image row)) l in
       record { stands = stands-in known m; leads = to .0; some = to .1 }
 
   module _ (i : ℕ) (own : i < countAt image operations) where

@@ -12,11 +12,11 @@ use lib.Dec.{ltb}
 use lib.ListN.{length, getD}
 use borrow.Author.Tests.{ltb-true, ltb-false}
 use Rattle.tables.specs.declared.Range.{Range}
-use Rattle.tables.specs.Layout.{operations, fragments, sets, selections, mostRows}
-use Rattle.tables.specs.Image.{wordAt, countAt, rowIn}
+use Rattle.tables.specs.Layout.{operations, fragments, sets, selections}
+use Rattle.tables.specs.Image.{countAt, rowIn}
 use Rattle.tables.specs.Columns.{field, spread, inline, setSelections, selectionKind, selectionTarget, selectionAt, fragmentSet, setBelow}
 use Rattle.tables.specs.Good.{Good, StandsIn, GoodOwned}
-use Rattle.tables.proofs.Widths.{most-of}
+use Rattle.tables.proofs.Counts.{few-rows}
 use Rattle.tables.proofs.Ranges.{row-in}
 use Rattle.tables.proofs.ColumnLaws.{below-spread, below-own, stands, stands-below}
 use Rattle.reach.specs.Turns.{turns}
@@ -56,17 +56,12 @@ reaches-trans r (onward q l) = onward (reaches-trans r q) l
 
 -- ---- the tables of a good image are small
 
-pub few-rows : (image : List ℕ) → Good image → (t : ℕ) → t < 9 → {most : ℕ} → mostRows (wordAt image 0) t ≡ most → countAt image t ≤ most
-few-rows image good t h e =
-    let few : countAt image t ≤ mostRows (wordAt image 0) t = good .few t (omega (arith, good .nine)) in
-    omega arith
-
 module _ (image : List ℕ) (good : Good image) where
   pub few-sets : countAt image sets ≤ 4096
-  few-sets = few-rows image good sets (omega arith) (most-of _ sets)
+  few-sets = few-rows image (good .few) sets (omega arith)
 
   pub few-selections : countAt image selections ≤ 8192
-  few-selections = few-rows image good selections (omega arith) (most-of _ selections)
+  few-selections = few-rows image (good .few) selections (omega arith)
 
   -- ---- the rows of a set
 

@@ -21,6 +21,7 @@ use Rattle.rows.specs.Rows.{ascends, goodType, goodChild, goodReference,
 use Rattle.tables.specs.Numbering.{setStart, nextSet, nextValue}
 use Rattle.rows.specs.RowFault.{rowRule, firstBad, brokenRow, leftOver, unclaimedFault, rowFault, imageFault, GoodBelow}
 use Rattle.tables.specs.Good as good
+use Rattle.tables.proofs.Tidy.{good-header}
 use Rattle.tables.proofs.Counts.{few-rows}
 use Rattle.tables.proofs.Innermost.{named-core, listed-core}
 
@@ -126,7 +127,7 @@ module _ (image : List ℕ) (n : ℕ) (below : GoodBelow image n) where
 
     fragment-set-is : (j : ℕ) → fragmentSet image j < countAt image sets → fragmentSet image j ≡ countAt image operations + j
     unfolding fragmentSet
-    fragment-set-is j h = omega (arith, few-rows image (below .header) sets (omega arith))
+    fragment-set-is j h = omega (arith, few-rows image (good-header image (below .header) .few) sets (omega arith))
 
     pub fragment-row : (j : ℕ) → j < countAt image fragments → good.GoodFragment image j
     unfolding rowRule goodFragment

@@ -5,7 +5,6 @@ use mathlib.Core.Bool.{Bool, true, false, cond}
 use mathlib.Core.List.{List}
 use mathlib.Core.Option.{none}
 use native.Mathlib.Nat.{le-refl}
-use native.Mathlib.Decide.{decLe}
 use native.Mathlib.Numerals.{add-one}
 use native.Mathlib.Omega.{arith}
 use Rattle.tables.specs.Layout.{operations, fragments, sets, selections}
@@ -13,6 +12,7 @@ use Rattle.tables.specs.Image.{wordAt, countAt}
 use Rattle.tables.specs.Columns.{selectionAt}
 use Rattle.tables.specs.Numbering.{ownsSet, nextSet}
 use Rattle.lists.specs.First.{_▷_}
+use Rattle.lists.proofs.EveryLaws.{all-below}
 use Rattle.tables.specs.Header.{headerFault}
 use Rattle.rows.specs.RowFault.{rowFault, imageFault, GoodBelow}
 use Rattle.tables.specs.Good.{Good, GoodOwned}
@@ -31,11 +31,7 @@ module _ (image : List ℕ) (fault-free : imageFault image ≡ none) where
   own-sets = go (countAt image fragments) (le-refl _)
     where
       operations-few : countAt image operations ≤ countAt image sets
-      operations-few =
-          elim (decLe (countAt image operations) (countAt image sets)) [
-            | yes h ↦ h
-            | no more ↦ absurd (omega (arith, operation-row image 9 all-good (omega arith) (countAt image sets) (omega arith) .set))
-          ]
+      operations-few = all-below _ _ (λ i h. operation-row image 9 all-good (omega arith) i h .set)
 
       go : (j : ℕ) → j ≤ countAt image fragments → countAt image operations + j ≤ countAt image sets
       go zero h = omega (arith, operations-few)

@@ -18,7 +18,8 @@ use Rattle.tables.specs.Numbering.{setEnd, setStart, ownsSet, nextSet}
 use Rattle.rows.specs.Selections.{selectionRule, goodSelection}
 use Rattle.rows.specs.SelectionPass.{GoodTo, Passing, Passed}
 use Rattle.rows.specs.RowFault.{rowRule, firstBad, GoodBelow, StandsAt}
-use Rattle.tables.proofs.Counts.{few-operations, few-fragments, few-selections}
+use Rattle.tables.proofs.Tidy.{good-header}
+use Rattle.tables.proofs.Counts.{limitOf, few-rows}
 use Rattle.rows.proofs.HomeLaws.{set-inside, start-inside, set-end, least-in-set, least-in-none}
 use Rattle.tables.proofs.ColumnLaws.{next-set-first, next-set-more, next-set-most}
 
@@ -78,9 +79,12 @@ pub record AtSet (image : List ℕ) (s row next : ℕ) : Type 0 where
   pub so-far : GoodTo image row next
 
 module _ (image : List ℕ) (good : GoodBelow image 5) where
+  few : (t : ℕ) → t < 9 → countAt image t ≤ limitOf t
+  few = few-rows image (good-header image (good .header) .few)
+
   few-numbers : (end : ℕ) → end ≤ countAt image selections → countAt image operations + countAt image fragments + end ≤ NONE
   few-numbers end within =
-      omega (arith, few-operations image (good .header), few-fragments image (good .header), few-selections image (good .header))
+      omega (arith, few operations (omega arith), few fragments (omega arith), few selections (omega arith))
 
   -- the first number that a selection's set can have
   module _ {a b : ℕ} (first : a ≡ countAt image operations) (second : b ≡ countAt image fragments) where
@@ -97,7 +101,7 @@ module _ (image : List ℕ) (good : GoodBelow image 5) where
     to-end = rw read
 
     pub end-fits : rows .first + rows .count ≤ 8192
-    end-fits = omega (arith, to-end, set-inside image good s here, few-selections image (good .header))
+    end-fits = omega (arith, to-end, set-inside image good s here, few selections (omega arith))
 
     pub enters-set : {row next : ℕ} → AtSet image s row next → Passing image row next (rows .first + rows .count) (s + 1)
     enters-set at =

@@ -5,14 +5,13 @@ use mathlib.Core.Bool.{true, false, _&&_}
 use mathlib.Core.List.{List}
 use mathlib.Core.Option.{none}
 use native.Mathlib.Nat.{le-refl}
-use native.Mathlib.Decide.{decLe}
 use native.Mathlib.Numerals.{add-one}
 use native.Mathlib.Omega.{arith}
 use borrow.Author.Tests.{leb-true, eqb-true, eq-eqb, ne-eqb, le-leb, lt-leb, lt-ltb}
 use lib.Dec.{eqb, leb}
 use Rattle.lists.specs.Every.{absent, distinct}
 use Rattle.lists.proofs.Tests.{first-of, second-of, all-three}
-use Rattle.lists.proofs.EveryLaws.{every-at, distinct-holds, absent-holds}
+use Rattle.lists.proofs.EveryLaws.{all-below, every-at, distinct-holds, absent-holds}
 use Rattle.tables.specs.Layout.{NONE, arguments, values}
 use Rattle.tables.specs.Image.{countAt, rowIn}
 use Rattle.tables.specs.Columns.{null, boolean, list, object, valueKind, valueKey, valueAtom, valueMembers}
@@ -90,11 +89,7 @@ module _ (image : List ℕ) (fault-free : imageFault image ≡ none) where
 
   -- no row claims past the table, so all claims end where the table does
   arguments-few : countAt image arguments ≤ countAt image values
-  arguments-few =
-      elim (decLe (countAt image arguments) (countAt image values)) [
-        | yes h ↦ h
-        | no more ↦ absurd (omega (arith, argument-rule image 9 all-good (omega arith) (countAt image values) (omega arith) .2))
-      ]
+  arguments-few = all-below _ _ (λ a h. argument-rule image 9 all-good (omega arith) a h .2)
 
   few-claimed : (v : ℕ) → v ≤ countAt image values → nextValue image v ≤ countAt image values
   few-claimed zero h = omega (arith, next-start image, arguments-few)

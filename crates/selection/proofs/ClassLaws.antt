@@ -14,12 +14,12 @@ use lib.Seq.{getD-set-same, getD-set-other}
 use borrow.Author.Tests.{eq-eqb, ne-eqb, eqb-true, lt-ltb, le-ltb}
 use Rattle.lists.specs.Every.{position, find}
 use Rattle.lists.specs.Part.{Outside}
-use Rattle.lists.proofs.EveryLaws.{position-passes, position-below}
+use Rattle.lists.proofs.EveryLaws.{position-cong, position-passes, position-below}
 use Rattle.lists.proofs.Parts.{le-or-lt, outside-none, outside-wider, outside-trans, set-outside}
 use Rattle.lists.proofs.Tests.{both, first-of, second-of, first-fails, second-fails}
 use Rattle.tables.specs.Columns.{typeKind, responseName, objectType}
 use Rattle.index.specs.Indexed.{firstPlace, Firsts}
-use Rattle.index.proofs.FirstsLaws.{position-agrees, keys-agree}
+use Rattle.index.proofs.FirstsLaws.{keys-agree}
 use Rattle.selection.specs.Classing.{parentClass, parentClassAt, alikeName, alikePair, Classes, indexOf, keyOf, pairKey, Written, Keys}
 
 -- ---- first rows
@@ -37,7 +37,7 @@ module _ (n : ℕ) (alike : ℕ → ℕ → Bool) (itself : (r : ℕ) → alike 
   same-first r q l m = go (alike q r) refl
     where
       go : (b : Bool) → alike q r ≡ b → eqb (position n (alike r)) (position n (alike q)) ≡ b
-      go true e = eq-eqb _ _ (position-agrees n _ _ (λ k _. sym (carries q r k e)))
+      go true e = eq-eqb _ _ (position-cong n _ _ (λ k _. sym (carries q r k e)))
       go false e =
           ne-eqb _ _ (λ same. false≢true (sym e ∙ meets q r (position n (alike q)) (first-alike q m) (subst (λ (k : ℕ). alike r k ≡ true) same (first-alike r l))))
 
@@ -247,7 +247,7 @@ module _ (image : List ℕ) (many : ℕ) {n : ℕ} {s s₁ s₂ s₃ s₄ : List
     unfolding firstPlace
     all-pairs r l =
         seconds .words (omega (arith, long₃)) (inl (omega arith)) (omega (arith, long₃)) r l
-        ∙ position-agrees n _ _ (λ k h.
+        ∙ position-cong n _ _ (λ k h.
         rw (pair-first k h, pair-first r l)
         (key-parts (many + 1) _ _ _ _ (omega (arith, class-le image many (getD s k 0))) (omega (arith, class-le image many (getD s r 0)))
         ∙ ap (λ (b : Bool). b && eqb (parentClass image many (getD s k 0)) (parentClass image many (getD s r 0))) (one-same n (λ j. responseName image j) k r h l)))

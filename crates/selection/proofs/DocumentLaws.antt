@@ -19,10 +19,10 @@ use Rattle.tables.specs.Image.{countAt}
 use Rattle.tables.specs.Columns.{field, spread, inline, selectionKind, selectionTarget, selectionAt, setSelections, fragmentSet}
 use Rattle.tables.specs.Numbering.{ownsSet}
 use Rattle.tables.specs.Good.{Good, GoodOwned, GoodSelection, StandsIn}
+use Rattle.tables.proofs.Counts.{few-rows}
 use Rattle.tables.proofs.ColumnLaws.{below-spread, below-own, inline-owns, field-owns, stands}
 use Rattle.selection.specs.ImageDocument.{upFrom, kindFrom, linkFrom, documentBy}
 use Rattle.selection.specs.Expanding.{Once, once-none, once-more}
-use Rattle.selection.proofs.ParentsLaws.{few-rows}
 
 -- ---- numbers counted up
 
@@ -60,7 +60,7 @@ module _ {image : List ℕ} (good : Good image) where
   one-inline {q} {r} p o a b e = one-owned (inline-owns image q p) (inline-owns image r o) a b e
 
   known-some : {u : ℕ} → u < countAt image sets → u ≡ NONE → ⊥
-  known-some h e = omega (arith, few-rows good sets (omega arith))
+  known-some h e = omega (arith, few-rows image (good .few) sets (omega arith))
 
   pub field-owned : {r u : ℕ} → r < countAt image selections → selectionKind image r ≡ field → selectionTarget image r ≡ u → u < countAt image sets
       → GoodOwned image r
@@ -80,6 +80,19 @@ module _ {image : List ℕ} (good : Good image) where
   fragment-set-known {j} h = omega (arith, good .fragment j h .set, good .fragment j h .set-number)
 
 -- ---- rows by kind
+
+-- a link to a set is no link to NONE
+pub link-is : (v : ℕ) {u : ℕ} → u ∈ listed (linkFrom v) → (v ≡ u) × (u ≡ NONE → ⊥)
+unfolding linkFrom
+link-is v {u} m = by-none (eqb v NONE) refl m
+  where
+    only-one : (eqb v NONE ≡ false) → u ∈ (v ∷ []) → (v ≡ u) × (u ≡ NONE → ⊥)
+    only-one is-set (here e) = (sym e, λ q. eqb-false v NONE is-set (sym e ∙ q))
+    only-one is-set (there n) = absurd (not-in-nil n)
+
+    by-none : (b : Bool) → eqb v NONE ≡ b → u ∈ listed (cond b none (some v)) → (v ≡ u) × (u ≡ NONE → ⊥)
+    by-none true e n = absurd (not-in-nil n)
+    by-none false e n = only-one e n
 
 module _ {image : List ℕ} (good : Good image) (sameShape : ℕ → ℕ → Bool) (sameArguments : Range → Range → Bool) (r : ℕ) where
   abbrev D : Document
@@ -105,18 +118,6 @@ module _ {image : List ℕ} (good : Good image) (sameShape : ℕ → ℕ → Boo
   pub field-by-kind : T (isField (D .kindOf r)) → selectionKind image r ≡ field
   unfolding documentBy kindFrom
   field-by-kind h = eqb-true (selectionKind image r) field (first-holds (eqb (selectionKind image r) field) (eqb (selectionKind image r) spread) h)
-
-  link-is : (v : ℕ) {u : ℕ} → u ∈ listed (linkFrom v) → (v ≡ u) × (u ≡ NONE → ⊥)
-  unfolding linkFrom
-  link-is v {u} m = by-none (eqb v NONE) refl m
-    where
-      only-one : (eqb v NONE ≡ false) → u ∈ (v ∷ []) → (v ≡ u) × (u ≡ NONE → ⊥)
-      only-one is-set (here e) = (sym e, λ q. eqb-false v NONE is-set (sym e ∙ q))
-      only-one is-set (there n) = absurd (not-in-nil n)
-
-      by-none : (b : Bool) → eqb v NONE ≡ b → u ∈ listed (cond b none (some v)) → (v ≡ u) × (u ≡ NONE → ⊥)
-      by-none true e n = absurd (not-in-nil n)
-      by-none false e n = only-one e n
 
   -- a field's own set is its target
   pub field-set : selectionKind image r ≡ field → {u : ℕ} → u ∈ setOf D r → (selectionTarget image r ≡ u) × (u ≡ NONE → ⊥)

@@ -16,6 +16,7 @@ use Rattle.merge_theory.proofs.Theorems.{expand-queue}
 use Rattle.merge_theory.proofs.ExpandLaws.{expand-at}
 use Rattle.tables.specs.Layout.{fragments, selections}
 use Rattle.tables.specs.Image.{countAt}
+use Rattle.tables.proofs.Counts.{few-rows}
 use Rattle.selection.specs.declared.arena.Arena.{Arena}
 use Rattle.selection.specs.declared.arena.Walk as states
 use Rattle.selection.specs.declared.arena.List as places
@@ -27,7 +28,6 @@ use Rattle.selection.specs.Regions.{Places}
 use Rattle.selection.specs.Standing.{LinkFrame, LinkableBoth, Stood}
 use Rattle.selection.specs.Places.{rowIn}
 use Rattle.selection.specs.Refining.{paidFor, document, passOf, Holds, Tells, charged, lengthOf, MeetsList, Ample, Begun, Site, Rows, Kept, Refines, walkList, Entered, Meets, Queued, MeetsSets}
-use Rattle.selection.proofs.ParentsLaws.{few-rows}
 use Rattle.selection.proofs.StandLaws.{classed-kept, heads-low, in-front, row-in}
 use Rattle.selection.proofs.ExpandedLaws.{listed-expand, stores-same}
 use Rattle.selection.proofs.KnownLaws.{key-most, known-told, known-kept, keeps}
@@ -177,7 +177,7 @@ module _ {image : List ℕ} {arena : Arena} {work : ℕ} {s s₁ s₂ : List ℕ
     once = queued .once;
     marks = rw (begun .number) (site .marks);
     room = omega (arith, site .room, low, begun .listed);
-    small = omega (arith, ample .few, begun .listed, few-rows (site .good) selections (omega arith));
+    small = omega (arith, ample .few, begun .listed, few-rows image (site .good .few) selections (omega arith));
   })
 
   abbrev l : List ℕ

@@ -10,19 +10,15 @@ use lib.Seq.{getD-set-same, getD-set-other}
 use Rattle.lists.proofs.Parts.{le-or-lt, outside-none, outside-wider, outside-trans, set-outside}
 use Rattle.tables.specs.declared.Range.{Range}
 use Rattle.tables.specs.Layout.{NONE, sets, selections}
-use Rattle.tables.specs.Image.{wordAt, countAt, rowIn}
+use Rattle.tables.specs.Image.{countAt, rowIn}
 use Rattle.tables.specs.declared.columns.Set.{Set}
 use Rattle.tables.specs.Columns.{setParent, setSelections, setAt}
 use Rattle.tables.specs.Numbering.{setEnd, setStart}
 use Rattle.tables.specs.Good.{Good, StandsIn}
 use Rattle.tables.proofs.Ranges.{row-in}
-use Rattle.tables.proofs.Tidy.{no-limit-over}
+use Rattle.tables.proofs.Counts.{few-rows}
 use Rattle.tables.proofs.ColumnLaws.{stands, set-start-none, set-start-next}
 use Rattle.selection.specs.Parents.{Filled, ParentsBelow}
-
--- a good image's tables are small
-pub few-rows : {image : List ℕ} → Good image → (t : ℕ) → t < 9 → countAt image t ≤ 16384
-few-rows {image} good t h = omega (arith, good .nine, good .few t (omega (arith, good .nine)), no-limit-over (wordAt image 0) t)
 
 pub filled-none : (first v : ℕ) (s : List ℕ) → Filled first 0 v s s
 filled-none first v s = record { long = refl; frame = λ _. outside-none first 0 s; words = λ _ _ k more less. absurd (omega arith) }
@@ -57,7 +53,7 @@ module _ (image : List ℕ) (good : Good image) where
       let first = setSelections image i .first in
       let n = setSelections image i .count in
       let within : first + n ≤ countAt image selections = good .set i h .within .ends in
-      let small : first + n ≤ NONE = omega (arith, few-rows good selections (omega arith)) in
+      let small : first + n ≤ NONE = omega (arith, few-rows image (good .few) selections (omega arith)) in
       let starts : first ≡ setStart image i = good .set i h .starts in
       let long = p .frame .long in
       let frame = f .frame small in

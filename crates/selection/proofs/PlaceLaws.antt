@@ -1,7 +1,7 @@
 -- The laws of places: what a search for a place found, and what that says of the list that stands there. Assumes nothing.
 use mathlib.Core.Path.{_≡_, refl, sym, ap, _∙_}
 use mathlib.Core.Logic.{⊎-elim}
-use mathlib.Core.Bool.{Bool, true, false, not, _&&_, _||_}
+use mathlib.Core.Bool.{Bool, true, false, not, _&&_, _||_, or-assoc}
 use mathlib.Core.List.{List, [], _∷_, _++_, append-nil, map}
 use Prim.Native.Nat.{ℕ, zero, suc, _+_, _-_, _≤_, _<_}
 use native.Mathlib.Nat.{add-zero}
@@ -224,11 +224,7 @@ or-true false = refl
 isIn-append : (a : ℕ) (xs ys : List ℕ) → isIn a (xs ++ ys) ≡ (isIn a xs || isIn a ys)
 unfolding isIn
 isIn-append a [] ys = refl
-isIn-append a (x ∷ xs) ys = ap (λ b. eqb a x || b) (isIn-append a xs ys) ∙ assoc (eqb a x) (isIn a xs) (isIn a ys)
-  where
-    assoc : (a b c : Bool) → (a || (b || c)) ≡ ((a || b) || c)
-    assoc true b c = refl
-    assoc false b c = refl
+isIn-append a (x ∷ xs) ys = ap (λ b. eqb a x || b) (isIn-append a xs ys) ∙ sym (or-assoc (eqb a x) (isIn a xs) (isIn a ys))
 
 pub filter-cong : (p q : ℕ → Bool) (xs : List ℕ) → ((y : ℕ) → p y ≡ q y) → filter p xs ≡ filter q xs
 unfolding filter

@@ -25,6 +25,7 @@ use Rattle.tables.specs.Image.{countAt, rowIn}
 use Rattle.tables.specs.Columns as columns
 use Rattle.tables.specs.Columns.{selectionKind, selectionTarget, fragmentSet}
 use Rattle.tables.specs.Good.{Good}
+use Rattle.tables.proofs.Counts.{few-rows}
 use Rattle.tables.proofs.Ranges.{row-in}
 use Rattle.selection.specs.declared.arena.Arena.{Arena}
 use Rattle.selection.specs.declared.expand.Expansion.{Expansion}
@@ -32,7 +33,6 @@ use Rattle.selection.specs.ImageDocument.{upFrom}
 use Rattle.selection.specs.Regions.{mostWork, rowsAtMost, roomOf, arenaOf, Places}
 use Rattle.selection.specs.Expanding.{hasRoom, queueNext, queueWords, listNext, listWords, isMarked, fragmentNext, fragmentWords, MarksBelow, Framed, Fresh}
 use Rattle.selection.specs.ExpandSteps.{Task, documentOf, Shows, Steps}
-use Rattle.selection.proofs.ParentsLaws.{few-rows}
 use Rattle.selection.proofs.OnceLaws.{once-left}
 use Rattle.selection.proofs.DocumentLaws.{field-kind, spread-kind, inline-kind, spread-set, inline-set, fragment-set-is, up-snoc}
 use Rattle.selection.proofs.QueueRows.{true-or-false, queued-field, marked-field, queued-inline, marked-inline, queued-again, queued-new, marked-spread, queueOf, queue-fits, list-fits}
@@ -59,7 +59,7 @@ places {image} work good e =
       heads = omega (arith, n);
       links = omega (arith, n);
       store = omega arith;
-      small = omega (arith, n, f, t, few-rows good selections (omega arith), few-rows good fragments (omega arith), few-rows good sets (omega arith));
+      small = omega (arith, n, f, t, few-rows image (good .few) selections (omega arith), few-rows image (good .few) fragments (omega arith), few-rows image (good .few) sets (omega arith));
     }
 
 -- the links of all that a budget pays for, and of the list at hand, stand before the store
@@ -496,7 +496,7 @@ module _ {image : List ℕ} {arena : Arena} where
       → row ≡ rowIn range i → Steps image arena (row ∷ []) s′ s″ x′ x″ → Steps image arena (upFrom (range .first) (i + 1)) s s″ x x″
   steps-more range i a read b =
       rw (add-one i, up-snoc (range .first) i)
-      (steps-then a (steps-read (λ good h. read ∙ row-in range i (omega (arith, few-rows good selections (omega arith)))) b))
+      (steps-then a (steps-read (λ good h. read ∙ row-in range i (omega (arith, few-rows image (good .few) selections (omega arith)))) b))
 
   pub steps-first : (first : ℕ) (s : List ℕ) (x : Expansion) → Steps image arena (upFrom first 0) s s x x
   unfolding upFrom

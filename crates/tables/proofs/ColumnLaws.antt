@@ -1,25 +1,23 @@
 -- Laws of the columns for the crates above, which unfold nothing of this one: keys by table, kinds of types, where a selection leads,
--- which of them own a set, what stands in a set, and how few rows a good image has.
+-- which of them own a set, and what stands in a set.
 -- Assumes nothing.
 use Prim.Native.Nat.{ℕ, zero, suc, _+_, _<_, _≤_}
 use mathlib.Core.Path.{_≡_, refl}
 use mathlib.Core.Logic.{_⊎_, inl, inr}
 use mathlib.Core.Bool.{Bool, true, false, cond, not, _&&_, _||_, false≢true}
-use mathlib.Core.List.{List, map}
+use mathlib.Core.List.{List}
 use native.Mathlib.Omega.{arith}
 use borrow.Author.Tests.{le-leb, lt-leb, lt-ltb, eq-eqb, ne-eqb, eqb-true, eqb-false}
-use lib.Dec.{eqb, leb, leb→le}
+use lib.Dec.{eqb, leb}
 use Rattle.lists.specs.Every.{total}
 use Rattle.lists.proofs.Tests.{both, second-fails}
 use Rattle.lists.proofs.EveryLaws.{total-more}
-use Rattle.tables.specs.Layout.{NONE, Table, edition1, mostRows, operations, fragments, sets, arguments, values}
-use Rattle.tables.specs.Image.{wordAt, countAt}
+use Rattle.tables.specs.Layout.{NONE, operations, fragments, sets, arguments, values}
+use Rattle.tables.specs.Image.{countAt}
 use Rattle.tables.specs.Columns.{isComposite, argumentName, valueKey, field, spread, inline, selectionKind, selectionTarget, selectionAt, setSelections, setBelow, fragmentSet, isFragmentSet}
 use Rattle.tables.specs.Keys.{keyOf}
 use Rattle.tables.specs.Numbering.{setStart, setEnd, ownsSet, owned, nextSet}
 use Rattle.tables.specs.Good.{Good, StandsIn}
-use Rattle.tables.proofs.Lists.{everywhere}
-use Rattle.tables.proofs.Widths.{most-of}
 
 -- the key of an argument is its name, that of a member its key
 pub argument-key : (image : List ℕ) (r : ℕ) → keyOf image arguments r ≡ argumentName image r
@@ -118,10 +116,3 @@ set-start-none image = refl
 pub set-start-next : (image : List ℕ) (s : ℕ) → setStart image (suc s) ≡ setSelections image s .first + setSelections image s .count
 unfolding setStart setEnd
 set-start-next image s = refl
-
--- a table of a good image has no more rows than a word can number
-pub few-rows : (image : List ℕ) → Good image → (t : ℕ) → t < 9 → countAt image t ≤ NONE
-few-rows image good t h =
-    let limits = map (λ (x : Table). x .most) edition1 in
-    let most : mostRows (wordAt image 0) t ≤ NONE = rw (most-of (wordAt image 0) t) (leb→le _ _ (everywhere (λ n. leb n NONE) limits 0 tt tt t)) in
-    omega (arith, good .few t (omega (arith, good .nine)))

@@ -20,7 +20,8 @@ use Rattle.values.specs.Same.{sameValue, sameArguments}
 use Rattle.values.specs.Shape.{sameShape}
 use Rattle.values.specs.Fields.{FieldRow, OutputReference, ArgumentRange, typesAgree, sameName, sameFieldArguments}
 use Rattle.values.specs.Equivalence.{Equivalence}
-use Rattle.tables.proofs.ColumnLaws.{argument-key, few-rows}
+use Rattle.tables.proofs.Counts.{few-rows}
+use Rattle.tables.proofs.ColumnLaws.{argument-key}
 use Rattle.values.proofs.SetLaws.{DistinctIn, set-refl, set-sym, set-trans}
 use Rattle.values.proofs.ValueLaws.{Fits, value-refl, value-sym, value-trans}
 use Rattle.values.proofs.ShapeLaws.{shape-refl, shape-sym, shape-trans}
@@ -71,7 +72,7 @@ module _ (image : List ℕ) (good : Good image) where
   pub fit-in : (rows : Range) → ArgumentRange image rows → (k : ℕ) → k < rows .count → Fits image deepestLevel (rowIn rows k)
   fit-in rows r k l =
       let inside = r .within .ends in
-      rw (row-in rows k (omega (arith, few-rows image good arguments (omega arith)))) (argument-fits (rows .first + k) (omega arith))
+      rw (row-in rows k (omega (arith, few-rows image (good .few) arguments (omega arith)))) (argument-fits (rows .first + k) (omega arith))
 
   pub names-distinct : (rows : Range) → ArgumentRange image rows → DistinctIn (keyOf image arguments) rows
   names-distinct rows r j k lj lk e = r .distinct j k lj lk (sym (argument-key image _) ∙ e ∙ argument-key image _)

@@ -18,7 +18,8 @@ use Rattle.tables.specs.Numbering.{level, deepestLevel}
 use Rattle.tables.specs.Good.{Good, GoodMembers}
 use Rattle.tables.proofs.Ranges.{row-in}
 use Rattle.values.specs.Same.{sameBy, sameValue}
-use Rattle.tables.proofs.ColumnLaws.{member-key, few-rows}
+use Rattle.tables.proofs.Counts.{few-rows}
+use Rattle.tables.proofs.ColumnLaws.{member-key}
 use Rattle.values.proofs.SameCases.{by-unlike, by-lists, by-objects, by-atoms}
 use Rattle.values.proofs.ListLaws.{list-refl, list-sym, list-trans, list-cong}
 use Rattle.values.proofs.SetLaws.{DistinctIn, set-refl, set-sym, set-trans, set-cong}
@@ -145,7 +146,7 @@ module _ (image : List ℕ) (good : Good image) where
   members-fit n v f holder k l =
       let g : GoodMembers image v = good .value v (f .row) .members holder in
       let inside = g .within .ends in
-      let at : rowIn (valueMembers image v) k ≡ valueMembers image v .first + k = row-in (valueMembers image v) k (omega (arith, few-rows image good values (omega arith))) in
+      let at : rowIn (valueMembers image v) k ≡ valueMembers image v .first + k = row-in (valueMembers image v) k (omega (arith, few-rows image (good .few) values (omega arith))) in
       let deeper = g .levels k l in
       rw at (record { row = omega arith; deep = omega (arith, f .deep) })
 

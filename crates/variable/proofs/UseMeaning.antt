@@ -3,38 +3,35 @@
 use mathlib.Core.Path.{_≡_, refl, sym, subst, _∙_}
 use mathlib.Core.Logic.{_⊎_, inl, inr}
 use mathlib.Core.List.{List}
-use Prim.Native.Nat.{ℕ, _+_, _-_, _≤_, _<_}
+use Prim.Native.Nat.{ℕ, _+_, _≤_, _<_}
 use native.Mathlib.Decide.{ℕ-discrete}
 use native.Mathlib.Omega.{arith}
 use lib.ListN.{length, getD, set, replicate, length-replicate, getD-replicate, List·getD-eq-default}
 use borrow.Author.Tests.{eq-eqb, ne-eqb}
+use Rattle.lists.proofs.EveryLaws.{all-below}
 use Rattle.lists.proofs.Parts.{le-or-lt}
 use Rattle.tables.specs.declared.Range.{Range}
 use Rattle.tables.specs.Layout.{NONE, operations, sets, selections, arguments, values, variables}
 use Rattle.tables.specs.Image.{countAt}
 use Rattle.tables.specs.Columns.{spread, operationDirectives, fragmentDirectives, setSelections, selectionKind, selectionTarget, fieldArguments, selectionDirectives}
 use Rattle.tables.specs.Good.{Good, StandsIn}
-use Rattle.tables.proofs.Widths.{most-of}
+use Rattle.tables.proofs.Counts.{few-rows}
 use Rattle.reach.specs.Reach.{RowOf, Reaches, itself, onward, ReachedFrom, Among, memberOf, reachedFrom}
 use Rattle.variable.specs.Uses.{Uses, reachRange, reachSelection, reachSet, reachQueue, noneUsed, reachArguments}
 use Rattle.variable.specs.Rules.{UsesArgument, of-operation, of-field, of-selection, of-definition}
-use Rattle.reach.proofs.ReachMeaning.{few-rows, member-stands, stands-member, stands-row, queued-reached, reached-queued}
+use Rattle.reach.proofs.ReachMeaning.{member-stands, stands-member, stands-row, queued-reached, reached-queued}
 use Rattle.variable.proofs.Covers.{Covers, Adds, adds-then, adds-as, InTurn, adds-turns, adds-range}
 
 module _ (image : List ℕ) (good : Good image) where
   pub few-values : countAt image values ≤ 16384
-  few-values = few-rows image good values (omega arith) (most-of _ values)
+  few-values = few-rows image (good .few) values (omega arith)
 
   pub few-variables : countAt image variables ≤ 1024
-  few-variables = few-rows image good variables (omega arith) (most-of _ variables)
+  few-variables = few-rows image (good .few) variables (omega arith)
 
   -- every argument has its value
   pub arguments-valued : countAt image arguments ≤ countAt image values
-  arguments-valued = pick (le-or-lt (countAt image arguments) 0)
-    where
-      pick : (countAt image arguments ≤ 0) ⊎ (0 < countAt image arguments) → countAt image arguments ≤ countAt image values
-      pick (inl h) = omega arith
-      pick (inr h) = let last = good .argument (countAt image arguments - 1) (omega arith) .value in omega arith
+  arguments-valued = all-below _ _ (λ a h. good .argument a h .value)
 
   -- ---- the arguments of a selection, of a set, of a queue
 

@@ -16,7 +16,7 @@ use Rattle.lists.specs.Every.{position}
 use Rattle.lists.proofs.EveryLaws.{position-passes, position-below, before-position}
 use Rattle.lists.proofs.Parts.{le-or-lt}
 use Rattle.tables.specs.declared.Range.{Range}
-use Rattle.tables.specs.Layout.{NONE, operations, arguments, values, variables}
+use Rattle.tables.specs.Layout.{NONE, operations, arguments, variables}
 use Rattle.tables.specs.Image.{countAt, rowIn}
 use Rattle.tables.specs.Columns.{variable, operationVariables, valueKind, valueAtom, variableName}
 use Rattle.tables.specs.Good.{Good}
@@ -25,7 +25,7 @@ use Rattle.reach.specs.Reach.{RowOf}
 use Rattle.variable.specs.Definitions.{nameIn, findName, isOutput, firstOutput, isRepeated, firstRepeated, usageAllowed}
 use Rattle.variable.specs.Uses.{furthest, usesOf, firstUnused, argumentAllowed, allowedBelow, firstMisused}
 use Rattle.variable.specs.Verdict.{Shown, foundIn, usesFault, definedFault, usageFault}
-use Rattle.variable.specs.Rules.{Lowest, Defines, UsesArgument, UsesValue, UsesName, AreUnique, Repeats, isInput, AreInputs, NoInput, AreUsed, Unused, isAllowed, IsUsage, AreAllowed, Misused, shown, Verdict, ten, eleven, twelve, thirteen, right}
+use Rattle.variable.specs.Rules.{Lowest, Defines, UsesArgument, UsesName, AreUnique, Repeats, isInput, AreInputs, NoInput, AreUsed, Unused, isAllowed, IsUsage, AreAllowed, Misused, shown, Verdict, ten, eleven, twelve, thirteen, right}
 use Rattle.variable.proofs.TypeMeaning.{usage-means, output-means}
 use Rattle.variable.proofs.Covers.{covers-of, of-covers}
 use Rattle.variable.proofs.UseMeaning.{few-variables}
@@ -183,10 +183,7 @@ module _ (image : List ℕ) (good : Good image) (i : ℕ) (known : i < countAt i
         let at : findName image own (valueAtom image v) ≡ k = ap (findName image own) (u .atom ∙ sym (name-is k less)) ∙ first k less in
         let inside : findName image own (valueAtom image v) < countAt image variables = let h = row-known k less in omega arith in
         let covered = used-value image good i known own v (u .used) in
-        ap markAt (sym at) ∙ passed-all image good i known own .marks v (value-less v (u .used)) covered (u .kind) inside
-      where
-        value-less : (v : ℕ) → UsesValue image i v → v < countAt image values
-        value-less v h = value-known image good i known own v h
+        ap markAt (sym at) ∙ passed-all image good i known own .marks v (value-known image good i known own v (u .used)) covered (u .kind) inside
 
     marked-used : (k : ℕ) → k < operationVariables image i .count → (markAt k ≡ 0 → ⊥) → UsesName image i (variableName image (operationVariables image i .first + k))
     marked-used k less n =
