@@ -1,14 +1,13 @@
 -- One induction over the walk: what its steps have, and what two steps have together if each has it, the walk has. `Has` speaks of steps
 -- one for each i of a family, so that one walk, two walks, and walks with every budget and room are instances. Assumes nothing.
 use mathlib.Core.Path.{_≡_, refl}
-use mathlib.Core.Bool.{Bool, true, false}
 use mathlib.Core.Option.{Option, none, some}
 use mathlib.Core.List.{List, [], _∷_}
 use Prim.Native.Nat.{ℕ, zero, suc}
 use Rattle.merge_theory.specs.Lists.{_∈_, there, isKnown}
 use Rattle.merge_theory.specs.Document.{Document, Cause}
 use Rattle.merge_theory.specs.Expand.{expand}
-use Rattle.merge_theory.specs.Steps.{entry, State, finished, deep, Step, _then_, Found, tell}
+use Rattle.merge_theory.specs.Steps.{entry, finished, deep, Step, _then_, Found, tell}
 use Rattle.merge_theory.specs.Walk.{Pass, against, compareFirst, descend, setsBelow, meet, walkParts, walk}
 use Rattle.merge_theory.specs.Named.{Met, below}
 use Rattle.merge_theory.proofs.ListLaws.{head-in}

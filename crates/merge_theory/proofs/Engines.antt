@@ -3,11 +3,12 @@ use mathlib.Core.Path.{_≡_, refl}
 use mathlib.Core.Logic.{_↔_}
 use mathlib.Core.List.{[], _∷_}
 use Prim.Native.Nat.{ℕ}
-use Rattle.merge_theory.specs.Document.{Document, Sound}
+use Rattle.merge_theory.specs.Document.{Document, Cause, Sound}
 use Rattle.merge_theory.specs.Engine.{TrueEntry, true-entry, Engine, Decides}
 use Rattle.merge_theory.specs.Reordered.{Reordered}
 use Rattle.merge_theory.specs.Rule.{MergeFails, Reached, start, RuleHolds}
-use Rattle.merge_theory.specs.Steps.{Entry, State, Result, finished, conflict, out, deep, IsFinished, IsOut}
+use Rattle.merge_theory.specs.TrueConflict.{TrueConflict}
+use Rattle.merge_theory.specs.Steps.{Entry, entry, Result, finished, conflict, out, deep, IsFinished, IsOut}
 use Rattle.merge_theory.specs.Walk.{check}
 use Rattle.merge_theory.proofs.Conflict.{NamedEntry, named-entry, either-true, either-compared, true-fails}
 use Rattle.merge_theory.proofs.Order.{reordered-rule}
@@ -27,10 +28,22 @@ check-decides = record {
   within = within-budget;
 }
 
-module _ (run : Engine) (E : Decides run) where
-  breaks : {D : Document} {s : ℕ} {e : Entry} → TrueEntry D s e → MergeFails D (s ∷ [])
-  breaks {D} {s} (true-entry {c = c} {a = a} {b = b} h) = true-fails D s c a b h
+-- what a true entry says
+IsTrue : (D : Document) (s : ℕ) → Entry → Type 0
+IsTrue D s (entry t c a b) = TrueConflict D s c a b
 
+is-true : {D : Document} {s : ℕ} {e : Entry} → TrueEntry D s e → IsTrue D s e
+unfolding IsTrue
+is-true (true-entry h) = h
+
+pub entry-true : {D : Document} {s t a b : ℕ} {c : Cause} → TrueEntry D s (entry t c a b) → TrueConflict D s c a b
+unfolding IsTrue
+entry-true h = is-true h
+
+pub entry-breaks : {D : Document} {s : ℕ} {e : Entry} → TrueEntry D s e → MergeFails D (s ∷ [])
+entry-breaks {D} {s} (true-entry {c = c} {a = a} {b = b} h) = true-fails D s c a b h
+
+module _ (run : Engine) (E : Decides run) where
   -- An engine that does not run out finishes exactly if the rule holds.
   pub engine-decides : (D : Document) {At : ℕ → Type 0} (S : Sound D At) (budget used s : ℕ) → At s → ¬ IsOut (run D budget used s)
       → IsFinished (run D budget used s) ↔ RuleHolds D s
@@ -38,7 +51,7 @@ module _ (run : Engine) (E : Decides run) where
     where
       go : (r : Result) → run D budget used s ≡ r → ¬ IsOut r → IsFinished r ↔ RuleHolds D s
       go (finished z) e h = (λ t. E .finishes-right D S budget used s at z e, λ rule. tt)
-      go (conflict f z) e h = (λ t. absurd t, λ rule. rule s start (breaks (E .stops-true D budget used s f z e)))
+      go (conflict f z) e h = (λ t. absurd t, λ rule. rule s start (entry-breaks (E .stops-true D budget used s f z e)))
       go (out z) e h = absurd (h tt)
       go (deep z) e h = absurd (E .shallow D S budget used s at z e)
 

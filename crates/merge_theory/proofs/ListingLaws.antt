@@ -1,7 +1,6 @@
 -- B2, B3, B5: how a listing goes with the checks, and that one that is gone through has every entry. Assumes what each says.
 use mathlib.Core.Path.{_≡_, refl, sym, ap, _∙_, subst}
-use mathlib.Core.Logic.{_↔_, _⊎_, inl, inr, ⊎-elim}
-use mathlib.Core.Bool.{Bool, true, false}
+use mathlib.Core.Logic.{_↔_, ⊎-elim}
 use mathlib.Core.List.{List, [], _∷_, _++_}
 use Prim.Native.Nat.{ℕ, suc, _<_}
 use native.Mathlib.Nat.{le-refl}
@@ -9,7 +8,7 @@ use native.Mathlib.Omega.{arith}
 use lib.ListN.{length}
 use Rattle.merge_theory.specs.Lists.{_∈_, here, there, Every}
 use Rattle.merge_theory.specs.Document.{Document, Cause, Sound}
-use Rattle.merge_theory.specs.Steps.{Entry, entry, State, Result, finished, conflict, out, deep, IsFinished, stateOf, Step, after, _then_, list}
+use Rattle.merge_theory.specs.Steps.{Entry, entry, State, Result, finished, conflict, out, deep, IsFinished, stateOf, list}
 use Rattle.merge_theory.specs.Walk.{Pass, shapePass, parentPass, compareFirst, fresh, pass, passes, inOrder, listing, checks, begin}
 use Rattle.merge_theory.specs.Named.{Met, top, ComparedInCheck}
 use Rattle.merge_theory.specs.Rule.{SameResponse}
@@ -23,7 +22,7 @@ use Rattle.merge_theory.proofs.Stopping.{Stopping, StopsSo, StopsSoOf, 
 use Rattle.merge_theory.proofs.Found.{list-meets}
 use Rattle.merge_theory.proofs.Gone.{compared-under, Grown, Leaves, pass-done}
 use Rattle.merge_theory.proofs.Entries.{Front, ComparedIn, compared-in, ends-compared}
-use Rattle.merge_theory.proofs.Sizes.{Size, Prolongs, same, at-full, at-out, bears-listing}
+use Rattle.merge_theory.proofs.Sizes.{Prolongs, same, at-full, at-out, bears-listing}
 use Rattle.merge_theory.proofs.NoRoom.{no-room-checks}
 
 -- ---- with the checks: the listing prolongs them

@@ -1,6 +1,5 @@
 -- What holds of a walk's result, by how it ended, carried through the walk's steps once and for all. Assumes nothing.
 use mathlib.Core.Option.{Option, none, some}
-use Prim.Native.Nat.{ℕ}
 use Rattle.merge_theory.specs.Document.{Cause}
 use Rattle.merge_theory.specs.Steps.{Entry, State, Result, finished, conflict, out, deep, Step, after}
 

@@ -1,16 +1,15 @@
 -- T3 and B6. With more room and a larger budget a listing is the same, or goes on where it stopped; and some room and budget suffice. One
 -- induction over the steps shows both, and the check is the listing with no room. Assumes nothing.
-use mathlib.Core.Path.{_≡_, refl, sym, ap, _∙_, subst}
+use mathlib.Core.Path.{_≡_, refl, sym, _∙_, subst}
 use mathlib.Core.Bool.{Bool, true, false}
-use mathlib.Core.Option.{Option, none, some}
-use mathlib.Core.List.{List, [], _∷_, _++_, append-nil, append-assoc}
-use Prim.Native.Nat.{ℕ, zero, suc, _+_, _≤_, _<_, max}
+use mathlib.Core.List.{List, [], _∷_, _++_, append-assoc}
+use Prim.Native.Nat.{ℕ, suc, _+_, _≤_, _<_, max}
 use native.Mathlib.Nat.{le-refl, le-trans, le-max-left, le-max-right}
 use native.Mathlib.Omega.{arith}
 use lib.Dec.{T, leb, ltb, leb→le, le→leb, ltb→lt, lt→ltb}
 use lib.ListN.{length}
 use Rattle.merge_theory.specs.Lists.{_∈_, isKnown}
-use Rattle.merge_theory.specs.Document.{Document, Cause}
+use Rattle.merge_theory.specs.Document.{Document}
 use Rattle.merge_theory.specs.Expand.{expand}
 use Rattle.merge_theory.specs.Steps.{Entry, entry, State, Result, finished, conflict, out, deep, IsOut, stateOf, Step, after, _then_, charged, chargeIf, charge, Found, stop, isListed, entered, listIf, list}
 use Rattle.merge_theory.specs.Walk.{Pass, shapePass, parentPass, compareFirst, costOf, note, enter, meet, walk, fresh, pass, passes, inOrder, listing}

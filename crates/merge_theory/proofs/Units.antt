@@ -9,13 +9,13 @@ use lib.ListN.{length}
 use Rattle.merge_theory.specs.Lists.{_∈_, isKnown}
 use Rattle.merge_theory.specs.Document.{Document}
 use Rattle.merge_theory.specs.Expand.{expand}
-use Rattle.merge_theory.specs.Steps.{Entry, entry, State, Result, finished, conflict, out, deep, Step, after, _then_, chargeIf, charge, Found, stop}
-use Rattle.merge_theory.specs.Walk.{Pass, shapePass, parentPass, compareFirst, costOf, note, enter, meet, walk, fresh, begin, pass, passes, inOrder, check}
+use Rattle.merge_theory.specs.Steps.{Entry, entry, State, Result, finished, conflict, out, deep, Step, after, _then_, chargeIf, charge, Found}
+use Rattle.merge_theory.specs.Walk.{Pass, shapePass, parentPass, compareFirst, costOf, note, enter, meet, fresh, pass, passes, inOrder}
 use Rattle.merge_theory.specs.Named.{Met, top}
 use Rattle.merge_theory.specs.Units.{weight, WithinBudget}
 use Rattle.merge_theory.proofs.Outcome.{Fact, Stops, Everywhere, Meets, meets-after, meets-weaken}
 use Rattle.merge_theory.proofs.Carried.{Joins, joins-against, Carries, carried-walk}
-use Rattle.merge_theory.proofs.Found.{Stayed, Modest, stop-modest}
+use Rattle.merge_theory.proofs.Found.{Stayed, Modest}
 
 -- a list that is noted adds its length and one more
 pub weight-note : (known : List (List ℕ)) (fields : List ℕ) → weight (known ++ fields ∷ []) ≡ weight known + suc (length fields)

@@ -9,7 +9,7 @@ use Rattle.merge_theory.specs.Lists.{flatMap, filter, distinct, isIn, sa
 use Rattle.merge_theory.specs.Document.{Document, Cause, shape, name, arguments, setOf}
 use Rattle.merge_theory.specs.Expand.{entering, marking, queued, marked, visits, fieldsOf, expand}
 use Rattle.merge_theory.specs.Groups.{fieldsWith, keysOf, groups, concretes, abstracts, subgroupsBy, subgroups}
-use Rattle.merge_theory.specs.Steps.{State, Result, finished, deep, Step, after, _then_, charged, chargeIf, charge, Found, stop, sameEntry, isListed, listIf, list, tell}
+use Rattle.merge_theory.specs.Steps.{State, Result, finished, deep, Step, after, _then_, chargeIf, charge, Found, stop, sameEntry, isListed, listIf, list, tell}
 
 -- ---- the two passes
 

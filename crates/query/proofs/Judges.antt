@@ -29,7 +29,7 @@ use Rattle.selection.specs.declared.arena.Reply.{Reply}
 use Rattle.selection.specs.Regions.{arenaOf}
 use Rattle.selection.proofs.StepLaws.{store-is}
 use Rattle.query.specs.Needed.{mostWork, scratchNeeded}
-use Rattle.query.specs.Reply.{answer, ofImage, refused, faulty, reply, scratchAfter}
+use Rattle.query.specs.Reply.{answer, ofImage, refused, faulty, replyBy, reply, scratchAfter}
 use Rattle.query.specs.Refusing.{refusedShows}
 use Rattle.query.specs.declared.refuse.Refused.{Refused}
 use Rattle.query.specs.declared.refuse.Refused.the-variants as refusing
@@ -134,12 +134,12 @@ module _ (image : List ℕ) (work : ℕ) where
 
   module _ (s : List ℕ) (f : Refused) (shows : refusedShows f ≡ refused image work (length s)) where
     pub reply-refused : {kind a : ℕ} {r : Reply} → f ≡ refusing.By kind a → r ≡ answer kind 0 a 0 0 → (r ≡ reply image work (length s)) × (s ≡ scratchAfter image work s)
-    unfolding reply scratchAfter
+    unfolding replyBy scratchAfter
     reply-refused wrong e = let told = ap refusedShows (sym wrong) ∙ shows in (rw (← told) e, rw (← told) refl)
 
     pub none-refused : f ≡ refusing.Not → refused image work (length s) ≡ none
     none-refused good = sym shows ∙ ap refusedShows good
 
     pub reply-judged : {s′ : List ℕ} {r : Reply} → f ≡ refusing.Not → JudgesAll image work s s′ r → (r ≡ reply image work (length s)) × (s′ ≡ scratchAfter image work s)
-    unfolding reply scratchAfter
+    unfolding replyBy scratchAfter
     reply-judged good judged = let told = none-refused good in (rw told (judged .says), rw told (judged .clear))

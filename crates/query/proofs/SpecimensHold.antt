@@ -12,7 +12,7 @@ use Rattle.values.specs.Same.{sameList, hasKey, keysWithin, matched, sameSet, s
 use Rattle.values.specs.Shape.{isLeaf, areNames, areLists, sameNamed, sameShapeIn, sameShape}
 use Rattle.selection.specs.ImageDocument.{upFrom, kindFrom, linkFrom, documentBy}
 use Rattle.query.specs.Needed.{rowsInAll, scratchNeeded}
-use Rattle.query.specs.Reply.{refused, faulty, operationsFrom, reply}
+use Rattle.query.specs.Reply.{refused, faulty, operationsFrom, replyBy, reply}
 use Rattle.query.specs.Specimens.{Specimen, specimens}
 
 pub specimens-hold : map (λ (s : Specimen). reply (s .image) (s .work) (s .long)) specimens ≡ map (λ (s : Specimen). s .replies) specimens
@@ -22,5 +22,5 @@ unfolding
     furthest reachRange reachSelection reachSet reachQueue noneUsed reachArguments markVariable useValue passRow markVariables usesOf
     firstUnused argumentAllowed allowedBelow firstMisused usesFault definedFault
     sameList hasKey keysWithin matched sameSet sameBy sameValue sameArguments isLeaf areNames areLists sameNamed sameShapeIn sameShape
-    upFrom kindFrom linkFrom documentBy rowsInAll scratchNeeded refused faulty operationsFrom reply
+    upFrom kindFrom linkFrom documentBy rowsInAll scratchNeeded refused faulty operationsFrom replyBy
 specimens-hold = refl

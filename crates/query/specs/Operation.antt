@@ -1,11 +1,12 @@
--- Kinds 10 to 17 of one operation, as the code gives them. Assumes nothing.
+-- Kinds 10 to 17 of one operation, as the code gives them.
 use Prim.Native.Nat.{ℕ, _+_, _≤_}
 use mathlib.Core.Path.{_≡_}
 use mathlib.Core.List.{List}
 use mathlib.Core.Option.{none}
 use lib.ListN.{length, drop}
+use Rattle.merge_theory.specs.Engine.{Engine}
 use Rattle.merge_theory.specs.Walk.{check}
-use Rattle.tables.specs.Layout.{operations, selections}
+use Rattle.tables.specs.Layout.{selections}
 use Rattle.tables.specs.Image.{countAt}
 use Rattle.tables.specs.Good.{Good}
 use Rattle.variable.specs.Uses.{usesWords}
@@ -16,15 +17,15 @@ use Rattle.selection.specs.Regions.{arenaOf}
 use Rattle.selection.specs.Classes.{Prepared}
 use Rattle.selection.specs.Refining.{replyOf}
 use Rattle.query.specs.Needed.{mostWork}
-use Rattle.query.specs.Reply.{documentOf, ofVariables, orElse, operationsFrom}
+use Rattle.query.specs.Reply.{documentOf, ofVariables, orElse, walkedReply}
+
+-- an operation's own answer by an engine: kind 0 where it passes, with what is used by then
+unfoldable pub operationReply : Engine → List ℕ → (work i used : ℕ) → Reply
+operationReply run image work i used =
+    let walked = replyOf i (run (documentOf image) work used i) in
+    orElse (ofVariables i used (usageFault image i)) walked
 
 module _ (image : List ℕ) (work : ℕ) where
-  -- the operation's own answer: kind 0 where it passes, with what is used by then
-  unfoldable pub operationReply : (i used : ℕ) → Reply
-  operationReply i used =
-      let walked = replyOf i (check (documentOf image) work used i) in
-      orElse (ofVariables i used (usageFault image i)) walked
-
   -- the words that are lent: first those of the rules on variables, behind them those of the walk
   pub record Ready (s : List ℕ) : Type 0 where
     pub good : Good image
@@ -41,9 +42,9 @@ module _ (image : List ℕ) (work : ℕ) where
   pub record Checked (s s′ : List ℕ) (i used : ℕ) (r : Reply) : Type 0 where
     pub long : length s′ ≡ length s
     pub lent : Lent s′
-    pub says : r ≡ operationReply i used
+    pub says : r ≡ operationReply check image work i used
 
   -- all are
   pub record CheckedAll (s s′ : List ℕ) (r : Reply) : Type 0 where
     pub long : length s′ ≡ length s
-    pub says : r ≡ operationsFrom image work (countAt image operations) 0 0
+    pub says : r ≡ walkedReply check image work

@@ -1,5 +1,5 @@
--- What the check replies (document 01, "The reply"): the order of all kinds, and what each shows. Hold it beside 01's table.
--- Assumes nothing.
+-- What the check replies (document 01, "The reply"): the order of all kinds, and what each shows. Hold it beside 01's table. Merging is put
+-- to an engine, `run`: the check's is `check`, the merge walk.
 use Prim.Native.Nat.{ℕ, zero, suc}
 use mathlib.Core.List.{List, _++_}
 use mathlib.Core.Option.{Option, none, some}
@@ -7,6 +7,7 @@ use lib.Dec.{leb}
 use lib.ListN.{length, drop, replicate}
 use Rattle.lists.specs.First.{expect, _▷_}
 use Rattle.merge_theory.specs.Document.{Document, numberOf}
+use Rattle.merge_theory.specs.Engine.{Engine}
 use Rattle.merge_theory.specs.Steps.{entry, Result, finished, conflict, out, deep}
 use Rattle.merge_theory.specs.Walk.{check}
 use Rattle.tables.specs.Layout.{operations}
@@ -50,8 +51,8 @@ abbrev pub ofWalk : (i : ℕ) → Result → (ℕ → Reply) → Reply
 ofWalk i (finished y) later = later (y .used)
 ofWalk i (conflict (entry s cause a b) y) later = answer (numberOf cause) i a b (y .used)
 ofWalk i (out y) later = answer 17 i 0 0 (y .used)
--- never: the levels suffice
-ofWalk i (deep y) later = answer 0 i 0 0 0
+-- never: the levels suffice. If it were, it would be a refusal
+ofWalk i (deep y) later = answer 17 i 0 0 (y .used)
 
 abbrev pub orElse : Option Reply → Reply → Reply
 orElse none later = later
@@ -67,29 +68,39 @@ module _ (image : List ℕ) (work : ℕ) where
       expect (leb work mostWork) (answer 2 0 work 0 0) ▷
       expect (leb (scratchNeeded image work) long) (answer 3 0 (scratchNeeded image work) 0 0)
 
-  -- 4, then 5 to 9
-  unfoldable pub faulty : Option Reply
-  faulty = ofImage (rowFault image) ▷ ofFragments (fragment.fragmentsFault image)
+-- 4, then 5 to 9
+unfoldable pub faulty : List ℕ → Option Reply
+faulty image = ofImage (rowFault image) ▷ ofFragments (fragment.fragmentsFault image)
 
+module _ (run : Engine) (image : List ℕ) (work : ℕ) where
   -- 10 to 17 of operation i, then the operations after it, `left` of them in all
   unfoldable pub operationsFrom : (left i used : ℕ) → Reply
   operationsFrom zero i used = answer 0 0 0 0 used
   operationsFrom (suc left) i used =
-      let walked = ofWalk i (check (documentOf image) work used i) (operationsFrom left (suc i)) in
+      let walked = ofWalk i (run (documentOf image) work used i) (operationsFrom left (suc i)) in
       orElse (ofVariables i used (usageFault image i)) walked
 
+  -- 10 to 17 of all operations
+  abbrev pub walkedReply : Reply
+  walkedReply = operationsFrom (countAt image operations) 0 0
+
   -- the whole, with so many words of scratch
-  unfoldable pub reply : ℕ → Reply
-  reply long =
-      let walked = operationsFrom (countAt image operations) 0 0 in
-      let judged = orElse faulty walked in
-      orElse (refused long) judged
+  unfoldable pub replyBy : ℕ → Reply
+  replyBy long =
+      let walked = walkedReply in
+      let judged = orElse (faulty image) walked in
+      orElse (refused image work long) judged
 
-  -- ---- the scratch after it: as before on 1 to 3; else its needed words 0, and those beyond as before
+-- the reply of the check
+abbrev pub reply : List ℕ → (work long : ℕ) → Reply
+reply image work long = replyBy check image work long
 
+-- ---- the scratch after it: as before on 1 to 3; else its needed words 0, and those beyond as before
+
+module _ (image : List ℕ) (work : ℕ) where
   abbrev pub clearedUnless : Option Reply → List ℕ → List ℕ
   clearedUnless none s = replicate (scratchNeeded image work) 0 ++ drop (scratchNeeded image work) s
   clearedUnless (some r) s = s
 
   unfoldable pub scratchAfter : List ℕ → List ℕ
-  scratchAfter s = clearedUnless (refused (length s)) s
+  scratchAfter s = clearedUnless (refused image work (length s)) s

@@ -1,15 +1,15 @@
 -- What the theorems say of an image, beside its reply: no cause of 1 to 13 exists, the budget covers the walk, every rule holds. Hold it beside
--- the three demands. Assumes nothing.
+-- the three demands.
 use Prim.Native.Nat.{ℕ, _<_}
 use mathlib.Core.Path.{_≡_}
 use mathlib.Core.List.{List, [], _∷_}
 use mathlib.Core.Option.{none}
 use Rattle.merge_theory.specs.Document.{shape}
+use Rattle.merge_theory.specs.Engine.{Engine}
 use Rattle.merge_theory.specs.Rule.{RuleHolds}
 use Rattle.merge_theory.specs.RuleBy.{MergeBreaks, RuleHoldsBy}
 use Rattle.merge_theory.specs.Steps.{IsOut}
 use Rattle.merge_theory.specs.TrueConflict.{TrueConflict}
-use Rattle.merge_theory.specs.Walk.{check}
 use Rattle.tables.specs.Layout.{operations, sets}
 use Rattle.tables.specs.Image.{countAt}
 use Rattle.tables.specs.Columns.{typeKind, fieldName, fieldType, fieldArguments}
@@ -30,9 +30,9 @@ pub record NoCause (image : List ℕ) (work long : ℕ) : Type 0 where
   pub enough : Enough image work long
   pub variables : (i : ℕ) → i < countAt image operations → usageFault image i ≡ none
 
--- the budget covers the walk: no operation that the check comes to runs out
-abbrev pub Covers : List ℕ → ℕ → Type 0
-Covers image work = (i used : ℕ) → i < countAt image operations → Ran image work i used → ¬ IsOut (check (documentOf image) work used i)
+-- the budget covers the engine's way: no operation that it comes to runs out
+abbrev pub Covers : Engine → List ℕ → ℕ → Type 0
+Covers run image work = (i used : ℕ) → i < countAt image operations → Ran run image work i used → ¬ IsOut (run (documentOf image) work used i)
 
 -- ---- the merge rule, 5.3.2
 

@@ -7,12 +7,9 @@ use tables::count;
 use variable::rules::Usage;
 use variable::rules::validate_variable_definitions;
 use variable::rules::words_needed;
-ghost use Prim.Native.Nat.{_+_, _<_, _≤_};
-ghost use mathlib.Core.Path.{_≡_};
-ghost use lib.ListN.{length};
+ghost use Prim.Native.Nat.{_<_, _≤_};
 ghost use Rattle.tables.specs.Layout.{operations};
 ghost use Rattle.tables.specs.Image.{countAt};
-ghost use Rattle.query.specs.Reply.{operationsFrom};
 ghost use Rattle.query.specs.Operation.{Lent, Checked, Ready, CheckedAll};
 
 // One operation. The rules on variables are lent the words in front, the walk those behind them.

@@ -7,7 +7,7 @@ use Prim.Native.Nat.{ℕ, _+_, _≤_, _<_}
 use native.Mathlib.Omega.{arith}
 use Rattle.merge_theory.specs.Lists.{filter}
 use Rattle.merge_theory.specs.Document.{Cause}
-use Rattle.merge_theory.specs.Steps.{State, Step, after, _then_, stop, tell}
+use Rattle.merge_theory.specs.Steps.{State, Step, after, stop, tell}
 use Rattle.merge_theory.specs.Walk.{against, compareFirst}
 use Rattle.merge_theory.proofs.Loops.{against-append}
 use Rattle.selection.specs.declared.arena.Arena.{Arena}

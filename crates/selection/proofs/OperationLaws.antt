@@ -1,14 +1,14 @@
 -- The check of an operation: its own set is met, and the two passes run. Assumes nothing.
 use mathlib.Core.Path.{_≡_, sym, _∙_, subst}
 use mathlib.Core.Bool.{Bool, true, false}
-use mathlib.Core.List.{List, [], _∷_, _++_}
+use mathlib.Core.List.{List, [], _∷_}
 use Prim.Native.Nat.{ℕ, suc, _+_, _-_, _≤_, _<_, min}
 use native.Mathlib.Omega.{arith}
 use lib.ListN.{length, replicate}
 use Rattle.lists.specs.Part.{write, Stores, Outside}
 use Rattle.lists.proofs.Parts.{stores-none, outside-wider}
 use Rattle.merge_theory.specs.Rule.{Reached, start}
-use Rattle.merge_theory.specs.Steps.{State, Step, stop}
+use Rattle.merge_theory.specs.Steps.{Step, stop}
 use Rattle.merge_theory.specs.Walk.{fresh, walk}
 use Rattle.merge_theory.proofs.ListLaws.{not-in-nil, only}
 use Rattle.tables.specs.Layout.{operations, fragments, sets}

@@ -13,8 +13,8 @@ use Rattle.tables.specs.Layout.{NONE, sets, selections}
 use Rattle.tables.specs.Image.{countAt, rowIn}
 use Rattle.tables.specs.declared.columns.Set.{Set}
 use Rattle.tables.specs.Columns.{setParent, setSelections, setAt}
-use Rattle.tables.specs.Numbering.{setEnd, setStart}
-use Rattle.tables.specs.Good.{Good, StandsIn}
+use Rattle.tables.specs.Numbering.{setStart}
+use Rattle.tables.specs.Good.{Good}
 use Rattle.tables.proofs.Ranges.{row-in}
 use Rattle.tables.proofs.Counts.{few-rows}
 use Rattle.tables.proofs.ColumnLaws.{stands, set-start-none, set-start-next}

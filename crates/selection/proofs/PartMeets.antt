@@ -10,7 +10,7 @@ use Rattle.lists.specs.Part.{Outside}
 use Rattle.lists.proofs.Parts.{stores-none, stores-length}
 use Rattle.merge_theory.specs.Lists.{here, flatMap, filter}
 use Rattle.merge_theory.specs.Document.{Cause}
-use Rattle.merge_theory.specs.Steps.{Entry, entry, State, Result, finished, conflict, Step, after, _then_, stop, tell}
+use Rattle.merge_theory.specs.Steps.{Entry, entry, State, Result, finished, conflict, Step, after, stop, tell}
 use Rattle.merge_theory.specs.Walk.{against, compareFirst, descend, setsBelow, walk}
 use Rattle.tables.specs.Layout.{sets}
 use Rattle.selection.specs.declared.arena.Arena.{Arena}

@@ -1,7 +1,7 @@
 -- The laws of refinement: how steps of the code that do what steps of the merge theory do are put together. Assumes nothing.
 use mathlib.Core.Path.{_≡_, refl, sym, ap, _∙_}
 use mathlib.Core.Bool.{Bool, true, false, cond, false≢true}
-use mathlib.Core.List.{List, [], _∷_, _++_}
+use mathlib.Core.List.{List}
 use Prim.Native.Nat.{ℕ, suc, _+_, _*_, _≤_, _<_}
 use native.Mathlib.Omega.{arith}
 use lib.Dec.{leb, eqb}
@@ -10,7 +10,7 @@ use borrow.Author.Tests.{leb-true, eqb-true, eqb-false}
 use Rattle.lists.proofs.Parts.{stores-length}
 use Rattle.merge_theory.specs.Lists.{isKnown}
 use Rattle.merge_theory.specs.Document.{Cause, shape, name, arguments, numberOf}
-use Rattle.merge_theory.specs.Steps.{Entry, entry, State, Result, finished, conflict, out, deep, Step, after, _then_, chargeIf, charge}
+use Rattle.merge_theory.specs.Steps.{entry, State, Result, finished, conflict, out, deep, Step, after, _then_, chargeIf, charge}
 use Rattle.merge_theory.specs.Steps as steps
 use Rattle.merge_theory.specs.Walk.{costOf, note, enter, meet}
 use Rattle.selection.specs.declared.arena.Arena.{Arena}

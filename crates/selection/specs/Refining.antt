@@ -8,7 +8,7 @@
 --     Refines step ..        code that goes from s and z to s′ and z′ does what the step does
 use mathlib.Core.Path.{_≡_}
 use mathlib.Core.Bool.{Bool, true, false, cond}
-use mathlib.Core.List.{List, [], _∷_, _++_}
+use mathlib.Core.List.{List}
 use Prim.Native.Nat.{ℕ, zero, suc, _+_, _-_, _*_, _≤_, _<_}
 use lib.Dec.{eqb, leb}
 use lib.ListN.{length, getD}
@@ -16,7 +16,7 @@ use Rattle.lists.specs.Part.{Stores}
 use Rattle.merge_theory.specs.Lists.{Every}
 use Rattle.merge_theory.specs.Document.{Document, numberOf, FieldAt, Sound}
 use Rattle.merge_theory.specs.Rule.{Reached}
-use Rattle.merge_theory.specs.Steps.{Entry, entry, State, Result, finished, conflict, out, deep, Step, _then_, stop}
+use Rattle.merge_theory.specs.Steps.{entry, State, Result, finished, conflict, out, deep, Step, _then_, stop}
 use Rattle.merge_theory.specs.Steps as steps
 use Rattle.merge_theory.specs.Walk.{Pass, shapePass, parentPass, compareFirst, descend, setsBelow, noted, walkParts, walk}
 use Rattle.tables.specs.Layout.{selections}
@@ -53,7 +53,8 @@ abbrev pub replyOf : ℕ → Result → Reply
 replyOf op (finished y) = record { kind = 0; operation = op; a = 0; b = 0; used = y .used }
 replyOf op (conflict (entry s c a b) y) = record { kind = numberOf c; operation = op; a = a; b = b; used = y .used }
 replyOf op (out y) = record { kind = 17; operation = op; a = 0; b = 0; used = y .used }
-replyOf op (deep y) = record { kind = 0; operation = op; a = 0; b = 0; used = 0 }
+-- never: the levels suffice
+replyOf op (deep y) = record { kind = 17; operation = op; a = 0; b = 0; used = y .used }
 
 pub record Holds (s : List ℕ) (arena : Arena) (op : ℕ) (z : states.Walk) (y : State) : Type 0 where
   pub known : Known arena s (z .known) (y .known)

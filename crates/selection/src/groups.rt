@@ -10,8 +10,6 @@ use tables::columns::OBJECT;
 use tables::columns::response_name;
 use tables::columns::type_kind;
 ghost use mathlib.Core.Path.{_≡_};
-ghost use mathlib.Core.Bool.{not};
-ghost use lib.Dec.{eqb};
 ghost use Prim.Native.Nat.{_<_};
 ghost use lib.ListN.{getD};
 ghost use Rattle.selection.specs.Places.{rowIn};
