@@ -1,5 +1,5 @@
 -- What the door writes: a law for each `return`. Assumes nothing.
-use Prim.Native.Nat.{ℕ, zero, suc, _+_, _<_, _≤_, _%_, _/_}
+use Prim.Native.Nat.{ℕ, zero, suc, _+_, _<_, _≤_, _%_, _/_, min}
 use mathlib.Core.Path.{_≡_, refl, sym, ap, _∙_}
 use mathlib.Core.List.{List, [], _∷_, _++_, append-nil, append-assoc}
 use native.Mathlib.Omega.{arith}
@@ -7,7 +7,7 @@ use borrow.Author.Tests.{le-leb, lt-leb, eq-eqb, ne-eqb}
 use lib.ListN.{length, take, drop, set, length-append, drop-of-length-le}
 use lib.Seq.{drop-drop, take-at, drop-at}
 use Rattle.lists.specs.Part.{part, write}
-use Rattle.lists.proofs.Parts.{part-write}
+use Rattle.lists.proofs.Parts.{part-write, length-write}
 use Rattle.tables.specs.Layout.{NONE}
 use Rattle.selection.specs.declared.arena.Reply.{Reply}
 use Rattle.query.specs.Reply.{answer, reply, scratchAfter}
@@ -40,13 +40,20 @@ unfolding wordsOf
 length-words bytes zero = refl
 length-words bytes (suc n) = simp length-append (omega (arith, length-words bytes n))
 
+-- reading words leaves the length
+pub read-length : (bytes words : List ℕ) {words′ : List ℕ} (n : ℕ) → words′ ≡ write words 0 (wordsOf bytes (min n (length words))) → length words′ ≡ length words
+read-length bytes words n read =
+    let size = length-words bytes (min n (length words)) in
+    ap length read ∙ length-write words 0 (wordsOf bytes (min n (length words))) (omega arith)
+
 -- the words that were read are what is checked
 pub words-checked : (bytes words words′ : List ℕ) (n budget long : ℕ) {r : Reply} → length words ≡ 8192 → n ≤ 8192 → long ≡ 16384
-    → (n ≤ length words → words′ ≡ write words 0 (wordsOf bytes n)) → r ≡ reply (take n words′) budget long → r ≡ replyToWords bytes n budget
+    → words′ ≡ write words 0 (wordsOf bytes (min n (length words))) → r ≡ reply (take n words′) budget long → r ≡ replyToWords bytes n budget
 unfolding part
 words-checked bytes words words′ n budget long {r} room few own read e =
+    let all : min n (length words) ≡ n = omega arith in
+    let read′ = rw all at read in
     let size = length-words bytes n in
-    let read′ = read (omega arith) in
     let back : take (length (wordsOf bytes n)) (write words 0 (wordsOf bytes n)) ≡ wordsOf bytes n = part-write words 0 (wordsOf bytes n) (omega arith) in
     let cut : take (length (wordsOf bytes n)) words′ ≡ wordsOf bytes n = rw read′ back in
     let front : take n words′ ≡ wordsOf bytes n = rw size at cut in

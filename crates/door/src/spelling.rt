@@ -1,7 +1,7 @@
 // Words as bytes, low byte first.
 use lists::put;
 ghost use mathlib.Core.Path.{_≡_};
-ghost use Prim.Native.Nat.{_+_, _*_, _≤_, _/_, _%_};
+ghost use Prim.Native.Nat.{_+_, _*_, _≤_, _/_, _%_, min};
 ghost use lib.ListN.{length, getD};
 ghost use Rattle.lists.specs.Part.{write};
 ghost use Rattle.door.specs.Spelling.{wordOf, wordAt, wordsOf, bytesOf};
@@ -30,9 +30,9 @@ fn word_from(bytes: &[u8], i: u32) -> u32
     word_of(first, second, third, fourth)
 }
 
-// The first n words that bytes spell go to the front of `words`.
+// The first n words that bytes spell go to the front of `words`, or as many as there is room for.
 pub fn read_words(bytes: &[u8], words: &mut [u32], n: u32)
-    ensures { λ _. ⌜ (length (now (words .exit)) ≡ length (now (words .entry))) × (n ≤ length (now (words .entry)) → now (words .exit) ≡ write (now (words .entry)) 0 (wordsOf (now (bytes .entry)) n)) ⌝ }
+    ensures { λ _. ⌜ now (words .exit) ≡ write (now (words .entry)) 0 (wordsOf (now (bytes .entry)) (min n (length (now (words .entry))))) ⌝ }
 {
     let mut i: u32 = 0;
     while i < n {
