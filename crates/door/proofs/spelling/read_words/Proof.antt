@@ -39,13 +39,13 @@ turn : (bytes w₀ w w′ : List ℕ) (i v : ℕ) → w ≡ write w₀ 0 (wordsO
     → w′ ≡ write w₀ 0 (wordsOf bytes (min (i + 1) (length w₀)))
 turn bytes w₀ w w′ i v e long word put =
     elim (decLe (i + 1) (length w₀)) [
-      yes inside ↦
-        let now : min i (length w₀) ≡ i = omega arith in
-        let then : min (i + 1) (length w₀) ≡ i + 1 = omega arith in
-        rw (put, word, then) (stored bytes w₀ w i (rw now at e) (omega arith))
-    | no past ↦
-        let same : min (i + 1) (length w₀) ≡ min i (length w₀) = omega arith in
-        rw (put, same) (set-out w i v (omega arith) ∙ e)
+      | yes inside ↦
+          let now : min i (length w₀) ≡ i = omega arith in
+          let then : min (i + 1) (length w₀) ≡ i + 1 = omega arith in
+          rw (put, word, then) (stored bytes w₀ w i (rw now at e) (omega arith))
+      | no past ↦
+          let same : min (i + 1) (length w₀) ≡ min i (length w₀) = omega arith in
+          rw (put, same) (set-out w i v (omega arith) ∙ e)
     ]
 
 done : (bytes w₀ w : List ℕ) (i n : ℕ) → w ≡ write w₀ 0 (wordsOf bytes (min i (length w₀))) → i ≡ n → w ≡ write w₀ 0 (wordsOf bytes (min n (length w₀)))
