@@ -59,6 +59,19 @@ def operations(n):
     return {**BASE, "operations": [(0, 0, 0, 0)] * n, "sets": [(1, 0, 0)] * n}
 
 
+def deepest(holder):
+    """128 nested sets of fields; the innermost has two equal fields, each with an argument of 64 levels of this kind of value, list or object."""
+    image = nested(128)
+    key = NONE if holder == LIST_VALUE else 10
+    heads = [(holder, NONE if level == 1 else key, 2 * level + i, level < 64) for level in range(1, 65) for i in range(2)]
+    values = [(kind, at, first if some else 128, int(some)) for kind, at, first, some in heads]
+    fields = [(FIELD, 3, 3, LEAF, i, 1, NONE, 0, 0) for i in range(2)]
+    return {
+        **image, "arguments": [(10, LEAF, 0)] * 2, "values": values, "sets": image["sets"][:-1] + [(1, 128, 2)],
+        "selections": image["selections"][:-1] + fields,
+    }
+
+
 FIELD_A = lined_up([leaf()])
 NEEDED = scratch_needed(FIELD_A, WORK)
 

@@ -2,6 +2,7 @@
 """Writes cases for guard.c: those of crates/replay, and damaged images by seed with the oracle's answers where its folder is given.
 
     compare/faults/cases.py [--oracle FOLDER] [N]
+    compare/faults/cases.py --deep                  for stack.c: the images of tools/limits.py that nest deepest
 """
 import argparse
 import struct
@@ -27,6 +28,17 @@ def stored():
             yield work, scratch, [int(w) for w in line.split()[:5]], words
 
 
+def deep():
+    """Fields in each other, one and to the limit; then with lists and with objects to the limit below them. All fit the door."""
+    sys.path.insert(0, str(programs.ROOT / "tools"))
+    import image
+    import limits
+
+    for made, used in ((limits.nested(1), 8), (limits.nested(128), 516),
+                       (limits.deepest(limits.LIST_VALUE), 518), (limits.deepest(limits.OBJECT_VALUE), 518)):
+        yield 600, image.scratch_needed(made, 600), [0, 0, 0, 0, used], image.words(made)
+
+
 def more(folder, n):
     """Damaged images by seed, with what the oracle answers."""
     import random
@@ -42,10 +54,11 @@ def main():
     parser = argparse.ArgumentParser(description=__doc__, formatter_class=argparse.RawDescriptionHelpFormatter)
     parser.add_argument("n", type=int, nargs="?", default=20000)
     parser.add_argument("--oracle", type=Path, default=programs.ROOT.parent / "shared/oracle")
+    parser.add_argument("--deep", action="store_true")
     given = parser.parse_args()
-    cases = list(stored())
-    print("%d stored cases" % len(cases), file=sys.stderr)
-    if (given.oracle / "check.py").exists():
+    cases = list(deep() if given.deep else stored())
+    print("%d %s cases" % (len(cases), "deep" if given.deep else "stored"), file=sys.stderr)
+    if not given.deep and (given.oracle / "check.py").exists():
         cases += more(given.oracle, given.n)
         print("and %d damaged images, seeds 0 to %d" % (given.n, given.n - 1), file=sys.stderr)
     for work, scratch, reply, words in cases:

@@ -1,6 +1,6 @@
 //! Lengths, reply lengths and budgets at their edges.
 use ponybluster::exported::{check_query, check_query_lent};
-use ponybluster::{check, Reply};
+use ponybluster::{check, check_words, Reply, STACK, STACK_LENT};
 
 const PRIMER: &[u8] = include_bytes!("../../../examples/primer.img");
 
@@ -108,4 +108,34 @@ fn lent_reply_of_another_length() {
         assert!(reply.iter().all(|w| *w == 170), "{length} words");
         assert!(scratch.iter().all(|w| *w == 7), "{length} words");
     }
+}
+
+/// So many fields in each other, each below an object; the innermost is a leaf.
+fn nested(fields: u32) -> Vec<u32> {
+    let (sets, none) = (fields + 1, u32::MAX);
+    let [set_rows, selection_rows] = [32, 32 + 3 * sets];
+    let end = selection_rows + 9 * sets;
+    let mut words = vec![1, end, 2, 20, 2, 24, 1, 28, 0, 32];
+    words.extend([sets, set_rows, sets, selection_rows, 0, end, 0, end, 0, end]);
+    words.extend([1, 0, 2, 1, 0, 0, 0, 1, 0, 0, 0, 0]);
+    words.extend((0..sets).flat_map(|i| [1, i, 1]));
+    words.extend((1..sets).flat_map(|i| [0, 3, 3, 1, 0, 0, i, 0, 0]));
+    words.extend([0, 3, 3, 0, 0, 0, none, 0, 0]);
+    words
+}
+
+#[test]
+fn deep_images_on_the_documented_stack() {
+    let on = |size| std::thread::Builder::new().stack_size(size);
+    let words = nested(128);
+    let bytes: Vec<u8> = words.iter().flat_map(|w| w.to_le_bytes()).collect();
+    let passes = Reply {
+        used: 516,
+        ..shows(0, 0)
+    };
+    let door = on(STACK).spawn(move || check(&bytes, 1000)).unwrap();
+    assert_eq!(door.join().unwrap(), passes);
+    let mut scratch = vec![0; 65_536];
+    let lent = on(STACK_LENT).spawn(move || check_words(&words, 1000, &mut scratch));
+    assert_eq!(lent.unwrap().join().unwrap(), passes);
 }
