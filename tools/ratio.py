@@ -6,34 +6,19 @@
                                                 input: prints `cases rows used ours theirs ratio`
 
 COMMAND reads cases of the check as `replay` does, from standard input, and prints the same lines. Each case has the scratch that the
-door gives and the largest budget that this scratch allows. Counted as tools/measure.py says.
+door gives and the largest budget that this scratch allows. Counted as tools/measure.py does it.
 """
-import re
-import subprocess
 import sys
 
+from counting import REPLAY, of_one, output
 from door_images import IMAGES
 from image import as_bytes, scratch_needed
-from measure import COUNTER, PLAIN_STORES, REPLAY
 from store_replay import fits
 from vectors import vectors
 from worst_images import case, rows
 
 SCRATCH = 16384
 TOO_MUCH = 1000001
-
-
-def lines(command, given):
-    return subprocess.run(command, input=given, capture_output=True, check=True).stdout
-
-
-def instructions(command, given):
-    done = subprocess.run(COUNTER + command, input=given, capture_output=True, check=True, env=PLAIN_STORES)
-    return int(re.search(rb"I +refs: +([\d,]+)", done.stderr).group(1).replace(b",", b""))
-
-
-def of_one(command, given):
-    return instructions(command, given * 2) - instructions(command, given)
 
 
 def counted(command, image, work):
@@ -46,8 +31,8 @@ def images(other):
         image = build()
         work = (SCRATCH - scratch_needed(image, 0)) // 8
         given = case(image, work, SCRATCH)
-        ours = lines(REPLAY, given)
-        assert ours == lines(other, given), build.__name__
+        ours = output(REPLAY, given)
+        assert ours == output(other, given), build.__name__
         a, b = counted(REPLAY, image, work), counted(other, image, work)
         print(build.__name__, rows(image), *ours.decode().split(), a, b, "%.2f" % (a / b), flush=True)
 
@@ -60,8 +45,8 @@ def stored(folder, other):
         return b"".join(as_bytes([0, budget or head[0], head[1], len(ws), *ws]) for head, ws in cases)
 
     given, refused = together(None), together(TOO_MUCH)
-    ours = lines(REPLAY, given)
-    assert ours == lines(other, given) == b"".join(b"%d %d %d %d %d 1\n" % tuple(head[2:]) for head, ws in cases)
+    ours = output(REPLAY, given)
+    assert ours == output(other, given) == b"".join(b"%d %d %d %d %d 1\n" % tuple(head[2:]) for head, ws in cases)
     a, b = (of_one(command, given) - of_one(command, refused) for command in (REPLAY, other))
     all_rows = sum(ws[2 * table + 2] for head, ws in cases for table in range(9))
     print(len(cases), all_rows, sum(head[6] for head, ws in cases), a, b, "%.2f" % (a / b))
