@@ -10,7 +10,7 @@ use lib.Arith.{lt-of-le-ne}
 use lib.Dec.{ltb}
 use native.Mathlib.Numerals.{add-one}
 use native.Mathlib.Omega.{arith}
-use borrow.Author.Tests.{eq-eqb, eqb-true}
+use borrow.Author.Tests.{eq-eqb, ne-eqb, eqb-true}
 use lib.Dec.{eqb}
 use Rattle.lists.specs.Every.{every, position, total, find, absent, distinct, Distinct}
 use Rattle.lists.proofs.Tests.{both, first-of, second-of, not-true, not-false}
@@ -158,3 +158,21 @@ module _ (n : ℕ) (key : ℕ → ℕ) where
       let none : find n key wanted ≡ n = eqb-true _ _ e in
       let some : find n key wanted < n = position-below n (λ k. eqb (key k) wanted) k l (eq-eqb _ _ p) in
       omega arith
+
+  -- and only then
+  pub distinct-intro : Distinct n key → distinct n key ≡ true
+  unfolding distinct
+  distinct-intro apart =
+      every-intro n (λ k. eqb (find n key (key k)) k)
+      (λ k l. eq-eqb _ _ (position-found n (λ j. eqb (key j) (key k)) k l (λ j m. ne-eqb _ _ (unlike j k m l)) (eq-eqb (key k) (key k) refl)))
+    where
+      unlike : (j k : ℕ) → j < k → k < n → key j ≡ key k → ⊥
+      unlike j k m l p = let same = apart j k (omega arith) l p in omega arith
+
+  pub absent-intro : (wanted : ℕ) → ((k : ℕ) → k < n → key k ≡ wanted → ⊥) → absent n key wanted ≡ true
+  unfolding absent
+  absent-intro wanted none = eq-eqb _ _ (position-none n (λ k. eqb (key k) wanted) (λ k l. ne-eqb _ _ (none k l)))
+
+-- keys that are the same one by one
+pub distinct-same : (n : ℕ) (key other : ℕ → ℕ) → ((k : ℕ) → k < n → key k ≡ other k) → Distinct n key → Distinct n other
+distinct-same n key other same apart j k l m p = apart j k l m (same j l ∙ p ∙ sym (same k m))

@@ -7,7 +7,7 @@ use mathlib.Core.Bool.{false}
 use mathlib.Core.List.{List}
 use native.Mathlib.Nat.{le-refl}
 use native.Mathlib.Numerals.{add-one}
-use native.Mathlib.Decide.{le-ind}
+use native.Mathlib.Decide.{le-ind, decLe}
 use native.Mathlib.Omega.{arith}
 use lib.Dec.{leb}
 use borrow.Author.Tests.{le-leb, lt-ltb, le-ltb}
@@ -51,6 +51,16 @@ module _ (image : List ℕ) (good : GoodBelow image 5) where
   not-before s r within from k less =
       let past : setEnd image k ≤ r = omega (arith, starts-grow (suc k) s less within) in
       second-fails (leb (setSelections image k .first) r) (le-ltb _ _ past)
+
+  -- a row below the end of the last set stands below the end of some first
+  pub some-set : (n r : ℕ) → n ≤ countAt image sets → r < setStart image n → (s : ℕ) × (s < countAt image sets) × (setStart image s ≤ r) × (r < setEnd image s)
+  unfolding setStart
+  some-set zero r few less = absurd (omega arith)
+  some-set (suc n) r few less =
+      elim (decLe (setStart image n) r) [
+        | yes from ↦ (n, few, from, less)
+        | no before ↦ some-set n r (omega arith) (omega arith)
+      ]
 
   pub home-set : (s r : ℕ) → s < countAt image sets → setStart image s ≤ r → r < setEnd image s → homeSet image r ≡ s
   unfolding homeSet

@@ -17,7 +17,7 @@ use Rattle.tables.specs.Header.{headerFault}
 use Rattle.rows.specs.RowFault.{rowFault, imageFault, GoodBelow}
 use Rattle.tables.specs.Good.{Good, GoodOwned}
 use Rattle.tables.proofs.Tidy.{nine-tables, good-header}
-use Rattle.rows.proofs.PlainPromise.{good-header-of, every-row, no-set-left, kind-of-type, ascending, reference-row, operation-row, fragment-row, set-row, argument-rule, variable-row}
+use Rattle.rows.proofs.PlainPromise.{good-header-of, every-row, no-set-left, kind-of-type, ascending, reference-row, operation-row, fragment-row, set-row, argument-keeps, variable-row}
 use Rattle.tables.proofs.ColumnLaws.{next-set-first, next-set-more}
 use Rattle.rows.proofs.SelectionPromise.{selection-row, only-home, all-stand, owned-set, one-owner}
 use Rattle.rows.proofs.ValuePromise.{value-row, own-key, all-claimed}
@@ -66,8 +66,8 @@ module _ (image : List ℕ) (fault-free : imageFault image ≡ none) where
     set = set-row image 9 all-good (omega arith);
     selection = selection-row image fault-free;
     argument = λ a h.
-        let parts = argument-rule image 9 all-good (omega arith) a h in
-        record { reference = parts .0; default = parts .1; value = parts .2; no-key = own-key image fault-free a h (parts .2) };
+        let keeps = argument-keeps image 9 all-good (omega arith) a h in
+        record { reference = keeps .reference; default = keeps .default; value = keeps .value; no-key = own-key image fault-free a h (keeps .value) };
     value = value-row image fault-free;
     variable = variable-row image 9 all-good (omega arith);
     one-home = only-home image fault-free;

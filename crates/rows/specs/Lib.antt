@@ -4,4 +4,5 @@ pub mod Selections
 pub mod Values
 pub mod SelectionPass
 pub mod RowFault
+pub mod Meaning
 pub mod Specimens
