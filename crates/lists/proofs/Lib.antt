@@ -4,3 +4,4 @@ pub mod FirstLaws
 pub mod EveryLaws
 pub mod Parts
 pub mod Loans
+pub mod ClearLaws

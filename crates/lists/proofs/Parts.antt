@@ -187,3 +187,15 @@ popped {s} {at} {n} ws v r =
     let size : length ws ≡ n - 1 = omega arith in
     let last : getD (ws ++ (v ∷ [])) (n - 1) 0 ≡ v = getD-at ws v [] 0 (n - 1) size in
     (rw (← size) (stores-split ws (v ∷ []) r .0), stores-getD r (n - 1) (omega arith) ∙ last)
+
+-- a part whose words are as before stores what it did
+pub stores-same : {s s′ : List ℕ} {at n : ℕ} {ws : List ℕ} → length s′ ≡ length s → ((k : ℕ) → at ≤ k → k < at + n → getD s′ k 0 ≡ getD s k 0)
+    → Stores s at n ws → Stores s′ at n ws
+stores-same {s} {s′} {at} {n} {ws} long same r =
+    let in-new : at + n ≤ length s′ = omega (arith, r .inside) in
+    let size : length (part s′ at n) ≡ length (part s at n) = length-part s′ at n in-new ∙ sym (length-part s at n (r .inside)) in
+    let words : part s′ at n ≡ part s at n =
+    ext-getD 0 (part s′ at n) (part s at n) size λ i h.
+    let inside : i < n = omega (arith, length-part s′ at n in-new) in
+    getD-part s′ at n i inside ∙ same (at + i) (omega arith) (omega arith) ∙ sym (getD-part s at n i inside) in
+    record { inside = in-new; words = words ∙ r .words }

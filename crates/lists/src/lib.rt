@@ -5,6 +5,23 @@ ghost use Prim.Native.Nat.{_+_, _-_, min, max};
 ghost use lib.ListN.{length, getD, set, replicate};
 ghost use Rattle.lists.specs.Part.{write};
 
+// Places from `start` up to `end`.
+pub struct Span {
+    pub start: u32,
+    pub end: u32,
+}
+
+// How many places a span has.
+pub fn span_length(span: Span) -> u32
+    ensures { λ r. ⌜ r ≡ span .end - span .start ⌝ }
+{
+    if span.start < span.end {
+        span.end - span.start
+    } else {
+        0
+    }
+}
+
 // The word at a place; 0 past the end.
 pub fn get(s: &[u32], at: usize) -> u32
     ensures { λ r. ⌜ r ≡ getD (now (s .entry)) at 0 ⌝ }
@@ -32,6 +49,13 @@ pub fn most(a: u32, b: u32) -> u32
     ensures { λ r. ⌜ r ≡ max a b ⌝ }
 {
     if a < b { b } else { a }
+}
+
+// The place of word i of a region: a sum of two words, which fits whatever they are.
+pub fn in_region(start: u32, i: u32) -> usize
+    ensures { λ r. ⌜ r ≡ start + i ⌝ }
+{
+    (start as usize) + (i as usize)
 }
 
 // How many words n words from a place on are, cut off at the slice's end.

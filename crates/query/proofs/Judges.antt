@@ -27,7 +27,7 @@ use Rattle.fragment.specs.declared.rules.Fragments.{Fragments}
 use Rattle.fragment.specs.declared.rules.Fragments.the-variants as fragments
 use Rattle.selection.specs.declared.arena.Reply.{Reply}
 use Rattle.selection.specs.Regions.{arenaOf}
-use Rattle.selection.proofs.StepLaws.{store-is}
+use Rattle.selection.proofs.RegionLaws.{store-is}
 use Rattle.query.specs.Needed.{mostWork, scratchNeeded}
 use Rattle.query.specs.Reply.{answer, ofImage, refused, faulty, replyBy, reply, scratchAfter}
 use Rattle.query.specs.Refusing.{refusedShows}

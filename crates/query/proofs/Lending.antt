@@ -18,7 +18,7 @@ use Rattle.selection.specs.declared.arena.Reply.{Reply}
 use Rattle.selection.specs.Regions.{arenaOf}
 use Rattle.selection.specs.Classes.{Prepared, Prepares}
 use Rattle.selection.specs.Validating.{Checkable, Validates}
-use Rattle.selection.proofs.StepLaws.{places, links-fit}
+use Rattle.selection.proofs.RegionLaws.{places, links-fit}
 use Rattle.selection.proofs.StandLaws.{prepared-kept, in-front}
 use Rattle.query.specs.Reply.{answer}
 use Rattle.query.proofs.Soundness.{operation-sound}

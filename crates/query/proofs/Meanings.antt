@@ -29,7 +29,7 @@ use Rattle.values.specs.Same.{sameArguments}
 use Rattle.values.proofs.ShapeMeaning.{a-type, shape-decides}
 use Rattle.values.proofs.SameMeaning.{arguments-decide}
 use Rattle.values.proofs.FieldLaws.{field-reference, field-range}
-use Rattle.selection.specs.ImageDocument.{upFrom, linkFrom, documentBy}
+use Rattle.expand.specs.ImageDocument.{upFrom, linkFrom, documentBy}
 use Rattle.query.specs.Reply.{documentOf}
 use Rattle.query.specs.Given.{Sane}
 use Rattle.query.specs.Right.{AllMerge, SameFieldTypes, SameFieldNames, SameFieldArguments, AllMergeBy, EachSetMerges}

@@ -26,8 +26,8 @@ use Rattle.values.specs.Equivalence as values
 use Rattle.values.proofs.FieldLaws as fields
 use Rattle.values.specs.Same.{sameArguments}
 use Rattle.values.specs.Shape.{sameShape}
-use Rattle.selection.specs.ImageDocument.{documentBy}
-use Rattle.selection.proofs.DocumentLaws.{up-from, link-is, field-by-kind}
+use Rattle.expand.specs.ImageDocument.{documentBy}
+use Rattle.expand.proofs.DocumentLaws.{up-from, link-is, field-by-kind}
 use Rattle.query.specs.Reply.{documentOf}
 
 module _ {image : List ℕ} (good : Good image) where

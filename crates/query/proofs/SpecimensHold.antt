@@ -10,7 +10,7 @@ use Rattle.variable.specs.Uses.{furthest, reachRange, reachSelection, reachSet,
 use Rattle.variable.specs.Verdict.{usesFault, definedFault}
 use Rattle.values.specs.Same.{sameList, hasKey, keysWithin, matched, sameSet, sameBy, sameValue, sameArguments}
 use Rattle.values.specs.Shape.{isLeaf, areNames, areLists, sameNamed, sameShapeIn, sameShape}
-use Rattle.selection.specs.ImageDocument.{upFrom, kindFrom, linkFrom, documentBy}
+use Rattle.expand.specs.ImageDocument.{upFrom, kindFrom, linkFrom, documentBy}
 use Rattle.query.specs.Needed.{rowsInAll, scratchNeeded}
 use Rattle.query.specs.Reply.{refused, faulty, operationsFrom, replyBy, reply}
 use Rattle.query.specs.Specimens.{Specimen, specimens}

@@ -16,7 +16,7 @@ use Rattle.tables.specs.Header.{Refusal, headerFault}
 use Rattle.rows.specs.RowFault.{rowFault}
 use Rattle.variable.specs.Verdict.{Shown, usageFault}
 use Rattle.fragment.specs.Rules as fragment
-use Rattle.selection.specs.ImageDocument.{documentBy}
+use Rattle.expand.specs.ImageDocument.{documentBy}
 use Rattle.selection.specs.declared.arena.Reply.{Reply}
 use Rattle.values.specs.Same.{sameArguments}
 use Rattle.values.specs.Shape.{sameShape}

@@ -19,10 +19,10 @@ use Rattle.values.specs.Same.{sameArguments}
 use Rattle.values.specs.Shape.{sameShape}
 use Rattle.selection.specs.declared.arena.Arena.{Arena}
 use Rattle.selection.specs.declared.arena.Walk as states
-use Rattle.selection.specs.Expanding.{Once, once-none, once-more, StartSet, of-field}
+use Rattle.expand.specs.Expanding.{Once, once-none, once-more, StartSet, of-field}
 use Rattle.selection.specs.Refining.{document, Hand, Site, Rows}
-use Rattle.selection.proofs.OnceLaws.{once-flatMap, once-filter, once-below}
-use Rattle.selection.proofs.DocumentLaws.{field-set}
+use Rattle.expand.proofs.OnceLaws.{once-flatMap, once-filter, once-below}
+use Rattle.expand.proofs.DocumentLaws.{field-set}
 use Rattle.selection.proofs.QueueingLaws.{field-kind-of}
 
 module _ {image : List ℕ} {arena : Arena} {work op : ℕ} {s : List ℕ} {z : states.Walk} (site : Site image arena work op s z) {rows : List ℕ} (listed : Rows image arena work op rows) where

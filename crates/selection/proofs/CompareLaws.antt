@@ -12,7 +12,7 @@ use Rattle.merge_theory.specs.Walk.{against, compareFirst}
 use Rattle.merge_theory.proofs.Loops.{against-append}
 use Rattle.selection.specs.declared.arena.Arena.{Arena}
 use Rattle.selection.specs.declared.arena.Walk as states
-use Rattle.selection.specs.declared.arena.List as places
+use Rattle.lists.specs.declared.Span.{Span}
 use Rattle.selection.specs.declared.groups.Segment.{Segment}
 use Rattle.selection.specs.declared.groups.Part.{Part}
 use Rattle.selection.specs.Places.{rowIn, onward}
@@ -41,7 +41,7 @@ unfolding against
 nothing-left s arena z clash a y h = h
 
 -- the fields from `from` on have been compared up to a place: those from `at` on are left, and the next of them stands there
-pub record Upto (image s : List ℕ) (arena : Arena) (g : Segment) (isShape : Bool) (a from place : ℕ) (x : places.List) (l : List ℕ) : Type 0 where
+pub record Upto (image s : List ℕ) (arena : Arena) (g : Segment) (isShape : Bool) (a from place : ℕ) (x : Span) (l : List ℕ) : Type 0 where
   pub at : ℕ
   pub low : x .start ≤ at
   pub found : Found (member (document image) g) x l at place (rowIn s (arena .store) place)
@@ -49,7 +49,7 @@ pub record Upto (image s : List ℕ) (arena : Arena) (g : Segment) (isShape : Bo
       ≡ against stop op (passOf image isShape .clash) a (filter (member (document image) g) (onward x l at)) y
 
 pub record Comparing (image s : List ℕ) (arena : Arena) (g : Segment) (isShape : Bool) (a from end place : ℕ) : Type 0 where
-  pub upto : (x : places.List) (l : List ℕ) → x .end ≡ end → Grounded (document image) image s (arena .store) x l → Follows image s arena g x → x .start ≤ from
+  pub upto : (x : Span) (l : List ℕ) → x .end ≡ end → Grounded (document image) image s (arena .store) x l → Follows image s arena g x → x .start ≤ from
       → (from < x .end → member (document image) g (rowIn s (arena .store) from) ≡ true) → Upto image s arena g isShape a from place x l
 
 module _ {image s : List ℕ} {arena : Arena} {g : Segment} {isShape : Bool} {a from end : ℕ} where
@@ -60,7 +60,7 @@ module _ {image s : List ℕ} {arena : Arena} {g : Segment} {isShape : Bool} {a 
 
   module _ {place b : ℕ} (c : Comparing image s arena g isShape a from end place) (less : place < end) (row : b ≡ rowIn s (arena .store) place) where
     -- the field at the place is met next
-    turn : (x : places.List) (l : List ℕ) (is : x .end ≡ end) (G : Grounded (document image) image s (arena .store) x l) (F : Follows image s arena g x) (low : x .start ≤ from)
+    turn : (x : Span) (l : List ℕ) (is : x .end ≡ end) (G : Grounded (document image) image s (arena .store) x l) (F : Follows image s arena g x) (low : x .start ≤ from)
         (begins : from < x .end → member (document image) g (rowIn s (arena .store) from) ≡ true) (op : ℕ) (y : State)
         → against stop op (passOf image isShape .clash) a (filter (member (document image) g) (onward x l from)) y
         ≡ after (tell stop op (passOf image isShape .clash a b) a b y) (against stop op (passOf image isShape .clash) a (filter (member (document image) g) (onward x l (place + 1))))
@@ -88,7 +88,7 @@ module _ {image s : List ℕ} {arena : Arena} {g : Segment} {isShape : Bool} {a 
           };
     }
 
-    pub comparing-clash : (z : states.Walk) (x : places.List) {kind : ℕ} → x .end ≡ end → kind ≡ kindOfClash (passOf image isShape .clash a b)
+    pub comparing-clash : (z : states.Walk) (x : Span) {kind : ℕ} → x .end ≡ end → kind ≡ kindOfClash (passOf image isShape .clash a b)
         → (kind ≡ 0 → ⊥) → ComparesSegment image s arena z x g isShape a from (conflicted kind a b z)
     comparing-clash z x {kind} is k stop = record {
       same = λ e. absurd (stop e);
@@ -97,7 +97,7 @@ module _ {image s : List ℕ} {arena : Arena} {g : Segment} {isShape : Bool} {a 
       tells = λ l G F low begins y h. rw (turn x l is G F low begins (z .reply .operation) y) (told s arena z kind a b (passOf image isShape .clash a b) _ k stop y h);
     }
 
-  pub comparing-done : {place : ℕ} → Comparing image s arena g isShape a from end place → end ≤ place → (z : states.Walk) (x : places.List) → x .end ≡ end → ComparesSegment image s arena z x g isShape a from z
+  pub comparing-done : {place : ℕ} → Comparing image s arena g isShape a from end place → end ≤ place → (z : states.Walk) (x : Span) → x .end ≡ end → ComparesSegment image s arena z x g isShape a from z
   comparing-done c over z x is = record {
     same = λ _. refl;
     known = refl;

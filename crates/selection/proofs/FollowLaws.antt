@@ -13,7 +13,7 @@ use Rattle.lists.proofs.Tests.{first-of, second-of}
 use Rattle.merge_theory.specs.Document.{Document}
 use Rattle.tables.specs.Columns.{objectType, typeKind, responseName}
 use Rattle.selection.specs.declared.arena.Arena.{Arena}
-use Rattle.selection.specs.declared.arena.List as places
+use Rattle.lists.specs.declared.Span.{Span}
 use Rattle.selection.specs.declared.groups.Segment.{Segment}
 use Rattle.selection.specs.declared.groups.Cursor.{Cursor}
 use Rattle.selection.specs.Places.{seek, rowIn}
@@ -62,7 +62,7 @@ module _ (image s : List ℕ) where
 
 -- ---- where the list is linked
 
-module _ {image s : List ℕ} {arena : Arena} {isShape : Bool} {x : places.List} (t : Threaded image s arena isShape x) where
+module _ {image s : List ℕ} {arena : Arena} {isShape : Bool} {x : Span} (t : Threaded image s arena isShape x) where
   -- the columns of the segments' links
   all-column : columnOf everyParent ≡ 0
   unfolding columnOf
@@ -154,7 +154,7 @@ module _ {image s : List ℕ} {arena : Arena} {isShape : Bool} {x : places.List}
           rw (object, eq-eqb _ _ named, first)
 
 -- a field of another name opens none of the subgroups of a name
-pub other-opens : (image s : List ℕ) (store : ℕ) (x : places.List) (name q : ℕ) → eqb (nameAt image s store q) name ≡ false → opensSubgroup image s store x name q ≡ false
+pub other-opens : (image s : List ℕ) (store : ℕ) (x : Span) (name q : ℕ) → eqb (nameAt image s store q) name ≡ false → opensSubgroup image s store x name q ≡ false
 unfolding opensSubgroup
 other-opens image s store x name q e = rw e
 
@@ -164,20 +164,20 @@ other-others image s store name q e = belongs-others image s name (rowIn s store
 
 -- ---- a search along the fields of one name, for one that passes a test that no field of another name passes
 
-module _ (image s : List ℕ) (arena : Arena) (test : places.List → ℕ → ℕ → Bool) where
+module _ (image s : List ℕ) (arena : Arena) (test : Span → ℕ → ℕ → Bool) where
   -- the places from `from` to here fail, and here the name goes on
   pub record OnName (from end place : ℕ) : Type 0 where
     pub ahead : from ≤ place
-    pub passed : (x : places.List) → x .end ≡ end → (name : ℕ) → Threaded image s arena false x → x .start ≤ from → (from < x .end → nameAt image s (arena .store) from ≡ name)
+    pub passed : (x : Span) → x .end ≡ end → (name : ℕ) → Threaded image s arena false x → x .start ≤ from → (from < x .end → nameAt image s (arena .store) from ≡ name)
         → Passed (test x name) from (x .end) place
-    pub named : (x : places.List) → x .end ≡ end → (name : ℕ) → Threaded image s arena false x → x .start ≤ from → (from < x .end → nameAt image s (arena .store) from ≡ name)
+    pub named : (x : Span) → x .end ≡ end → (name : ℕ) → Threaded image s arena false x → x .start ≤ from → (from < x .end → nameAt image s (arena .store) from ≡ name)
         → place < x .end → nameAt image s (arena .store) place ≡ name
 
   pub on-name-first : (from end : ℕ) → OnName from end from
   on-name-first from end = record { ahead = omega arith; passed = λ x is name t low here. passed-none (test x name) from (x .end); named = λ x is name t low here less. here less }
 
-  module _ (unlike : (x : places.List) (name q : ℕ) → eqb (nameAt image s (arena .store) q) name ≡ false → test x name q ≡ false) {from end place : ℕ} (on : OnName from end place) where
-    pub on-name-next : place < end → ((x : places.List) (name : ℕ) → x .end ≡ end → Threaded image s arena false x → x .start ≤ place → nameAt image s (arena .store) place ≡ name → test x name place ≡ false)
+  module _ (unlike : (x : Span) (name q : ℕ) → eqb (nameAt image s (arena .store) q) name ≡ false → test x name q ≡ false) {from end place : ℕ} (on : OnName from end place) where
+    pub on-name-next : place < end → ((x : Span) (name : ℕ) → x .end ≡ end → Threaded image s arena false x → x .start ≤ place → nameAt image s (arena .store) place ≡ name → test x name place ≡ false)
         → {next : ℕ} → next ≡ followed s arena everyParent place end → OnName from end next
     on-name-next less fails {next} e = record {
       ahead = omega (arith, on .ahead, follow-ahead s arena everyParent place end e less);
@@ -193,15 +193,15 @@ module _ (image s : List ℕ) (arena : Arena) (test : places.List → ℕ → �
     }
 
     -- the search ends here
-    pub on-name-end : (x : places.List) → x .end ≡ end → (name : ℕ) → Threaded image s arena false x → x .start ≤ from → (from < x .end → nameAt image s (arena .store) from ≡ name)
+    pub on-name-end : (x : Span) → x .end ≡ end → (name : ℕ) → Threaded image s arena false x → x .start ≤ from → (from < x .end → nameAt image s (arena .store) from ≡ name)
         → (place < x .end → nameAt image s (arena .store) place ≡ name → test x name place ≡ true) → place ≡ seek (test x name) from (x .end)
     on-name-end x is name t low here passes = seek-is (test x name) from (x .end) (on .passed x is name t low here) (λ less. passes less (on .named x is name t low here less))
 
 -- the two tests
-abbrev pub opensOf : List ℕ → List ℕ → Arena → places.List → ℕ → ℕ → Bool
+abbrev pub opensOf : List ℕ → List ℕ → Arena → Span → ℕ → ℕ → Bool
 opensOf image s arena x name = opensSubgroup image s (arena .store) x name
 
-abbrev pub othersOf : List ℕ → List ℕ → Arena → places.List → ℕ → ℕ → Bool
+abbrev pub othersOf : List ℕ → List ℕ → Arena → Span → ℕ → ℕ → Bool
 othersOf image s arena x name q = belongs image s (segment name abstractParent 0) (rowIn s (arena .store) q)
 
 -- a field whose parent is an object is not among the others
@@ -215,7 +215,7 @@ module _ {image s : List ℕ} {arena : Arena} {from end place : ℕ} where
       on-name-next image s arena (opensOf image s arena) (λ x name q h. other-opens image s (arena .store) x name q h) on less
       (λ x name is t low named. sym (opens-as t refl name place low (omega arith) named) ∙ fails) e
 
-  pub opens-found : OnName image s arena (opensOf image s arena) from end place → (place < end → opensAt image s arena place ≡ true) → (x : places.List) → x .end ≡ end
+  pub opens-found : OnName image s arena (opensOf image s arena) from end place → (place < end → opensAt image s arena place ≡ true) → (x : Span) → x .end ≡ end
       → FindsSubgroup image s arena x from place
   opens-found on passes x is = record {
     ahead = on .ahead;
@@ -229,7 +229,7 @@ module _ {image s : List ℕ} {arena : Arena} {from end place : ℕ} where
   others-next on less object e =
       on-name-next image s arena (othersOf image s arena) (λ x name q h. other-others image s (arena .store) name q h) on less (λ x name is t low named. others-not image s (arena .store) place name object) e
 
-  pub others-found : OnName image s arena (othersOf image s arena) from end place → (place < end → hasObjectParent image s (rowIn s (arena .store) place) ≡ false) → (x : places.List) → x .end ≡ end
+  pub others-found : OnName image s arena (othersOf image s arena) from end place → (place < end → hasObjectParent image s (rowIn s (arena .store) place) ≡ false) → (x : Span) → x .end ≡ end
       → FindsOthers image s arena x from place
   others-found on passes x is = record {
     found = λ t low.
@@ -239,7 +239,7 @@ module _ {image s : List ℕ} {arena : Arena} {from end place : ℕ} where
 
 -- ---- subgroups
 
-module _ {image s : List ℕ} {arena : Arena} {x : places.List} where
+module _ {image s : List ℕ} {arena : Arena} {x : Span} where
   pub first-is : {group first o : ℕ} → FindsOthers image s arena x group o → FindsSubgroup image s arena x group first → first < x .end
       → FirstSubgroup image s arena x group (record { group = group; first = first; others = o })
   unfolding firstSubgroup

@@ -1,13 +1,6 @@
 -- The laws of the crate.
+--     RegionLaws    where the regions of the words begin
 --     ParentsLaws   the parents' loops
---     OnceLaws      lists without repetition, and the pigeonhole
---     DocumentLaws  rows of a good image as the document has them
---     QueueRows     what the queue holds: each set once
---     ExpandedLaws  what a caller takes from the contracts of expanding
---     StepLaws      a row done, by its kind, and rows in order
---     ExpandWalk    the loop over the queue
---     ClearLaws     words that are cleared
---     KnownLaws     the store of known lists
 --     PlaceLaws     searches for a place of a list
 --     LinkLaws      links between the places of a list
 --     ClassLaws     classes of rows, by name and by name and parent
@@ -27,15 +20,8 @@
 --     ParentLaws    the loop of the parent pass
 --     OperationLaws the check of an operation
 --     ValidateLaws  its reply is the merge theory's
+pub mod RegionLaws
 pub mod ParentsLaws
-pub mod OnceLaws
-pub mod DocumentLaws
-pub mod ExpandedLaws
-pub mod QueueRows
-pub mod StepLaws
-pub mod ExpandWalk
-pub mod ClearLaws
-pub mod KnownLaws
 pub mod PlaceLaws
 pub mod LinkLaws
 pub mod ClassLaws

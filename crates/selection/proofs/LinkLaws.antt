@@ -14,7 +14,7 @@ use borrow.Author.Tests.{eq-eqb, ne-eqb, eqb-true, leb-true, ltb-true, le-leb, l
 use Rattle.lists.proofs.Parts.{le-or-lt}
 use Rattle.lists.proofs.EveryLaws.{before-position}
 use Rattle.lists.proofs.Tests.{both, all-three, first-fails, second-fails}
-use Rattle.selection.specs.declared.arena.List as places
+use Rattle.lists.specs.declared.Span.{Span}
 use Rattle.selection.specs.declared.links.Chain.{Chain}
 use Rattle.selection.specs.Places.{seek}
 use Rattle.selection.specs.Linking.{rowOf, classAt, nextAt, firstAt, lastOf, Linked, Linkable, Spared, Links, isEarlier, endWords, joinWords, linkWords}
@@ -184,7 +184,7 @@ module _ (cls : ℕ → ℕ) (start end : ℕ) where
 -- ---- links as words
 
 -- the words of a place that is the last of its class
-module _ (s : List ℕ) (c : Chain) (x : places.List) (place class first : ℕ) where
+module _ (s : List ℕ) (c : Chain) (x : Span) (place class first : ℕ) where
   abbrev at : ℕ
   at = c .links + 4 * place
 
@@ -219,7 +219,7 @@ module _ (s : List ℕ) (c : Chain) (x : places.List) (place class first : ℕ) 
         ∙ getD-set-same s (c .lasts + class) place 0 (omega arith)
 
 -- what the look at the last place of a class says
-module _ (s : List ℕ) (c : Chain) (x : places.List) (before place class : ℕ) where
+module _ (s : List ℕ) (c : Chain) (x : Span) (before place class : ℕ) where
   pub before-list : before < x .start → false ≡ isEarlier s c x before place class
   unfolding isEarlier
   before-list h = rw (lt-leb _ _ h)
@@ -243,12 +243,12 @@ module _ (s : List ℕ) (c : Chain) (x : places.List) (before place class : ℕ)
   earlier-fails e h l same = false≢true (sym e ∙ both (both (le-leb _ _ h) (lt-ltb _ _ l)) (eq-eqb _ _ same))
 
 -- what the code writes, by its way out
-pub ended : (s : List ℕ) (c : Chain) (x : places.List) (place class first : ℕ) {at last : ℕ} {s₁ s₂ s₃ : List ℕ} → at ≡ c .links + 4 * place → last ≡ c .lasts + class
+pub ended : (s : List ℕ) (c : Chain) (x : Span) (place class first : ℕ) {at last : ℕ} {s₁ s₂ s₃ : List ℕ} → at ≡ c .links + 4 * place → last ≡ c .lasts + class
     → s₁ ≡ set s last place → s₂ ≡ set s₁ at (x .end) → s₃ ≡ set s₂ (at + 1) first → s₃ ≡ endWords s c x place class first
 unfolding endWords
 ended s c x place class first a l one two three = rw (three, two, one, a, l)
 
-module _ (s : List ℕ) (c : Chain) (x : places.List) (place : ℕ) {class before last : ℕ} (is : class ≡ classAt s c place) (there : last ≡ c .lasts + class)
+module _ (s : List ℕ) (c : Chain) (x : Span) (place : ℕ) {class before last : ℕ} (is : class ≡ classAt s c place) (there : last ≡ c .lasts + class)
     (was : before ≡ getD s last 0) where
   pub joined-words : {look : Bool} → look ≡ isEarlier s c x before place class → look ≡ true → {at first : ℕ} {s₁ s₂ : List ℕ} → at ≡ c .links + 4 * before
       → first ≡ getD s (at + 1) 0 → s₁ ≡ set s at place → s₂ ≡ endWords s₁ c x place class first → s₂ ≡ linkWords s c x place
@@ -264,7 +264,7 @@ module _ (s : List ℕ) (c : Chain) (x : places.List) (place : ℕ) {class befor
       let looked : isEarlier s c x before place class ≡ false = sym look ∙ it-is-not in
       rw (← is, ← there, ← was, looked, one)
 
-pub link-long : (s : List ℕ) (c : Chain) (x : places.List) (place : ℕ) {s′ : List ℕ} → s′ ≡ linkWords s c x place → length s′ ≡ length s
+pub link-long : (s : List ℕ) (c : Chain) (x : Span) (place : ℕ) {s′ : List ℕ} → s′ ≡ linkWords s c x place → length s′ ≡ length s
 unfolding linkWords joinWords
 link-long s c x place e = ap length e ∙ go (isEarlier s c x (lastOf s c (classAt s c place)) place (classAt s c place))
   where
@@ -275,7 +275,7 @@ link-long s c x place e = ap length e ∙ go (isEarlier s c x (lastOf s c (class
     go true = end-long _ c x place k _ ∙ length-set s _ place
     go false = end-long s c x place k place
 
-module _ {s₀ : List ℕ} {n : ℕ} {c : Chain} {x : places.List} (ok : Linkable s₀ n c x) where
+module _ {s₀ : List ℕ} {n : ℕ} {c : Chain} {x : Span} (ok : Linkable s₀ n c x) where
   -- the places below `place` are linked, and all other words are as they were
   pub record Under (place : ℕ) (s : List ℕ) : Type 0 where
     pub long : length s ≡ length s₀
@@ -431,11 +431,11 @@ module _ {s₀ : List ℕ} {n : ℕ} {c : Chain} {x : places.List} (ok : Linkabl
   under-frame all low within k spared = all .frame k (record { lasts = spared .lasts; links = λ p h l. spared .links p h (omega arith) })
 
 -- what the loop does: a turn, and its end
-pub under-turn : {s₀ : List ℕ} {n : ℕ} {c : Chain} {x : places.List} (ok : Linkable s₀ n c x) (place : ℕ) → x .start ≤ place → place < x .end → {s s′ : List ℕ}
+pub under-turn : {s₀ : List ℕ} {n : ℕ} {c : Chain} {x : Span} (ok : Linkable s₀ n c x) (place : ℕ) → x .start ≤ place → place < x .end → {s s′ : List ℕ}
     → s′ ≡ linkWords s c x place → Under ok place s → Under ok (place + 1) s′
 under-turn ok place low less e sofar = rw e (under-more ok place low less sofar)
 
-pub under-all : {s₀ s : List ℕ} {c : Chain} {x : places.List} {place : ℕ} → x .start ≤ place → place - x .start ≤ x .end - x .start → x .end ≤ place → length s ≡ length s₀
+pub under-all : {s₀ s : List ℕ} {c : Chain} {x : Span} {place : ℕ} → x .start ≤ place → place - x .start ≤ x .end - x .start → x .end ≤ place → length s ≡ length s₀
     → ((n : ℕ) (ok : Linkable s₀ n c x) → Under ok place s) → Links s₀ s c x
 under-all low within done long all = record {
   long = long;
@@ -446,7 +446,7 @@ under-all low within done long all = record {
 -- ---- going along links
 
 -- where rows, classes and links of the list are the same, it is linked as before
-pub linked-frame : {s s″ : List ℕ} {c : Chain} {x : places.List}
+pub linked-frame : {s s″ : List ℕ} {c : Chain} {x : Span}
     → ((p : ℕ) → x .start ≤ p → p < x .end → rowOf s″ c p ≡ rowOf s c p)
     → ((p : ℕ) → x .start ≤ p → p < x .end → getD s″ (c .classes + rowOf s c p) 0 ≡ classAt s c p)
     → ((p : ℕ) → x .start ≤ p → p < x .end → (nextAt s″ c p ≡ nextAt s c p) × (firstAt s″ c p ≡ firstAt s c p))

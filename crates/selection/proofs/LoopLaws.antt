@@ -8,7 +8,7 @@ use lib.ListN.{length}
 use Rattle.merge_theory.specs.Walk.{Pass, walk}
 use Rattle.selection.specs.declared.arena.Arena.{Arena}
 use Rattle.selection.specs.declared.arena.Walk as states
-use Rattle.selection.specs.declared.arena.List as places
+use Rattle.lists.specs.declared.Span.{Span}
 use Rattle.selection.specs.declared.groups.Part.{Part}
 use Rattle.selection.specs.declared.walk.Met.{Met}
 use Rattle.selection.specs.Standing.{Stands}
@@ -19,7 +19,7 @@ use Rattle.selection.proofs.RefineLaws.{kept-trans, kept-none, by}
 use Rattle.selection.proofs.PassLaws.{walkRest, Progress, progress-turn, progress-stop, progress-end, progress-first}
 
 -- the walk of a list, and of a part, for an operation
-abbrev pub WalksAs : List ℕ → Arena → ℕ → ℕ → List ℕ → List ℕ → states.Walk → places.List → Bool → ℕ → states.Walk → Type 0
+abbrev pub WalksAs : List ℕ → Arena → ℕ → ℕ → List ℕ → List ℕ → states.Walk → Span → Bool → ℕ → states.Walk → Type 0
 WalksAs image arena work op s s′ z x isShape levels z′ =
     (l : List ℕ) → Site image arena work op s z → Stands arena isShape s x l → x .start ≤ x .end → x .end ≤ z .known → Rows image arena work op l
     → Refines image arena work op (walkList image arena work op (passOf image isShape) levels l) s s′ z z′
@@ -81,7 +81,7 @@ unfolding walkList
 whole-list image arena work op P level levels l is r = rw is (by (walkList image arena work op P (suc levels) l) (λ y h. refl) r)
 
 -- no level is left
-pub no-level : (image : List ℕ) (arena : Arena) (work : ℕ) (s : List ℕ) (z : states.Walk) (x : places.List) (isShape : Bool) (level : ℕ) → level ≡ 0 → Ample work 0 z
+pub no-level : (image : List ℕ) (arena : Arena) (work : ℕ) (s : List ℕ) (z : states.Walk) (x : Span) (isShape : Bool) (level : ℕ) → level ≡ 0 → Ample work 0 z
     → WalksList image arena work s s z x isShape level z
 unfolding walkList
 no-level image arena work s z x isShape level is ample = rw is (record {
@@ -92,7 +92,7 @@ no-level image arena work s z x isShape level is ample = rw is (record {
 })
 
 -- the loop: what is left of a list's parts, said by `Left`
-pub record PassLoop (image : List ℕ) (arena : Arena) (work : ℕ) (s₀ s : List ℕ) (z₀ z : states.Walk) (x : places.List) (isShape : Bool) (levels : ℕ) (Left : List ℕ → List (List ℕ) → Type 0) : Type 0 where
+pub record PassLoop (image : List ℕ) (arena : Arena) (work : ℕ) (s₀ s : List ℕ) (z₀ z : states.Walk) (x : Span) (isShape : Bool) (levels : ℕ) (Left : List ℕ → List (List ℕ) → Type 0) : Type 0 where
   pub long : length s ≡ length s₀
   pub operation : z .reply .operation ≡ z₀ .reply .operation
   pub ample : z .reply .kind ≡ 0 → Ample work 0 z
@@ -108,7 +108,7 @@ pub record Opens (image : List ℕ) (arena : Arena) (work op : ℕ) (isShape : B
   pub fields : Rows image arena work op rows
   pub next : Next l others
 
-module _ {image : List ℕ} {arena : Arena} {work : ℕ} {s₀ s : List ℕ} {z₀ z : states.Walk} {x : places.List} {isShape : Bool} {levels : ℕ} {Left : List ℕ → List (List ℕ) → Type 0} where
+module _ {image : List ℕ} {arena : Arena} {work : ℕ} {s₀ s : List ℕ} {z₀ z : states.Walk} {x : Span} {isShape : Bool} {levels : ℕ} {Left : List ℕ → List (List ℕ) → Type 0} where
   pub loop-turn : (Next : List ℕ → List (List ℕ) → Type 0) {s′ : List ℕ} {z′ : states.Walk} {part : Part} → PassLoop image arena work s₀ s z₀ z x isShape levels Left → Ample work 0 z → part .list ≡ x
       → Stepped image arena work s s′ z part isShape levels z′
       → ((l : List ℕ) (rest : List (List ℕ)) → Site image arena work (z₀ .reply .operation) s z → Stands arena isShape s x l → x .start ≤ x .end → x .end ≤ z .known
@@ -166,7 +166,7 @@ module _ {image : List ℕ} {arena : Arena} {work : ℕ} {s₀ s : List ℕ} {z�
   }
 
 -- the loop begins
-pub loop-first : {image : List ℕ} {arena : Arena} {work : ℕ} {s : List ℕ} {z : states.Walk} (x : places.List) (isShape : Bool) (levels : ℕ) (Left : List ℕ → List (List ℕ) → Type 0) → Ample work 0 z
+pub loop-first : {image : List ℕ} {arena : Arena} {work : ℕ} {s : List ℕ} {z : states.Walk} (x : Span) (isShape : Bool) (levels : ℕ) (Left : List ℕ → List (List ℕ) → Type 0) → Ample work 0 z
     → ((l : List ℕ) → Left l (passOf image isShape .parts l)) → PassLoop image arena work s s z z x isShape levels Left
 loop-first {image} x isShape levels Left ample left = record {
   long = refl;

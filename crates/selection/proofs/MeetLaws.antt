@@ -1,9 +1,8 @@
 -- Merged sets that are expanded and met: what that does, and that the merge theory's walk does the same. Assumes nothing.
 use mathlib.Core.Path.{_≡_, refl, sym, ap, _∙_}
-use mathlib.Core.Logic.{_⊎_, inl, inr}
 use mathlib.Core.Bool.{Bool, true, false, false≢true}
 use mathlib.Core.List.{List}
-use Prim.Native.Nat.{ℕ, zero, suc, _+_, _-_, _*_, _≤_, _<_}
+use Prim.Native.Nat.{ℕ, zero, suc, _+_, _*_, _≤_, _<_}
 use native.Mathlib.Omega.{arith}
 use lib.Dec.{leb}
 use lib.ListN.{length, getD}
@@ -17,20 +16,22 @@ use Rattle.merge_theory.proofs.ExpandLaws.{expand-at}
 use Rattle.tables.specs.Layout.{fragments, selections}
 use Rattle.tables.specs.Image.{countAt}
 use Rattle.tables.proofs.Counts.{few-rows}
+use Rattle.lists.specs.Part.{StoredAt}
 use Rattle.selection.specs.declared.arena.Arena.{Arena}
 use Rattle.selection.specs.declared.arena.Walk as states
-use Rattle.selection.specs.declared.arena.List as places
-use Rattle.selection.specs.declared.expand.Expansion.{Expansion}
+use Rattle.lists.specs.declared.Span.{Span}
+use Rattle.expand.specs.declared.Expansion.{Expansion}
 use Rattle.selection.specs.declared.walk.Met.{Met}
-use Rattle.selection.specs.Expanding.{Expanded, Listed}
-use Rattle.selection.specs.KnownLists.{AtHand, headAt}
-use Rattle.selection.specs.Regions.{Places}
+use Rattle.expand.specs.Expanding.{Expanded, Listed}
+use Rattle.selection.specs.Regions.{areaOf, registryOf, Places}
 use Rattle.selection.specs.Standing.{LinkFrame, LinkableBoth, Stood}
 use Rattle.selection.specs.Places.{rowIn}
 use Rattle.selection.specs.Refining.{paidFor, document, passOf, Holds, Tells, charged, lengthOf, MeetsList, Ample, Begun, Site, Rows, Kept, Refines, walkList, Entered, Meets, Queued, MeetsSets}
+use Rattle.selection.proofs.RegionLaws.{area-for}
 use Rattle.selection.proofs.StandLaws.{classed-kept, heads-low, in-front, row-in}
-use Rattle.selection.proofs.ExpandedLaws.{listed-expand, stores-same}
-use Rattle.selection.proofs.KnownLaws.{key-most, known-told, known-kept, keeps}
+use Rattle.expand.proofs.ExpandedLaws.{listed-expand}
+use Rattle.lists.proofs.Parts.{stores-same}
+use Rattle.known.proofs.KnownLaws.{Fits, known-kept, keeps}
 use Rattle.selection.proofs.RefineLaws.{MetCase, again, refused, stored, met-case, met-done, met-entered}
 
 -- ---- whatever the image is
@@ -51,7 +52,7 @@ charges work cost z = go (leb (z .reply .used + cost) work) refl
     go true e = rw e (record { known = refl; expansions = refl; operation = refl; fits = λ _. leb-true _ _ e; units = λ _. refl })
     go false e = rw e (record { known = refl; expansions = refl; operation = refl; fits = λ k. absurd (omega arith); units = λ k. absurd (omega arith) })
 
-pub ample-met : {s s′ : List ℕ} {arena : Arena} {work : ℕ} {z : states.Walk} {x : places.List} {r : Met} → MeetsList s s′ arena work z x r → Ample work 1 z
+pub ample-met : {s s′ : List ℕ} {arena : Arena} {work : ℕ} {z : states.Walk} {x : Span} {r : Met} → MeetsList s s′ arena work z x r → Ample work 1 z
     → x .start ≤ z .known + 1 → r .walk .reply .kind ≡ 0 → Ample work 0 (r .walk)
 ample-met {s} {s′} {arena} {work} {z} {x} {r} m a low = go (met-case m)
   where
@@ -83,9 +84,10 @@ ample-met {s} {s′} {arena} {work} {z} {x} {r} m a low = go (met-case m)
         })
 
 -- what a list that is met leaves of the words and the state
-record After (s s′ : List ℕ) (arena : Arena) (work : ℕ) (z : states.Walk) (x : places.List) (r : Met) : Type 0 where
+record After (s s′ : List ℕ) (arena : Arena) (work : ℕ) (z : states.Walk) (x : Span) (r : Met) : Type 0 where
   pub long : length s′ ≡ length s
-  pub words : (k : ℕ) → (k < arena .heads) ⊎ (arena .heads + arena .names < k) → (k ≡ arena .links + 4 * z .known → ⊥) → (k ≡ arena .store + z .known → ⊥) → getD s′ k 0 ≡ getD s k 0
+  pub front : (k : ℕ) → k < arena .heads → arena .heads ≤ arena .chain → arena .chain ≤ arena .store → getD s′ k 0 ≡ getD s k 0
+  pub behind : (k : ℕ) → arena .heads + arena .names < k → (k ≡ arena .chain + z .known → ⊥) → (k ≡ arena .store + z .known → ⊥) → getD s′ k 0 ≡ getD s k 0
   pub list : r .list ≡ x
   pub expansions : r .walk .expansions ≡ z .expansions
   pub operation : r .walk .reply .operation ≡ z .reply .operation
@@ -94,18 +96,14 @@ record After (s s′ : List ℕ) (arena : Arena) (work : ℕ) (z : states.Walk) 
   pub end : r .deeper ≡ true → r .walk .known ≡ x .end
   pub going : r .deeper ≡ true → r .walk .reply .kind ≡ 0
 
-not-head : (arena : Arena) (s : List ℕ) (x : places.List) (k : ℕ) → (k < arena .heads) ⊎ (arena .heads + arena .names < k) → k ≡ headAt arena s x → ⊥
-unfolding headAt
-not-head arena s x k (inl low) e = omega arith
-not-head arena s x k (inr high) e = omega (arith, key-most (arena .names) s (arena .store + x .start) (x .end - x .start))
-
-after-met : {s s′ : List ℕ} {arena : Arena} {work : ℕ} {z : states.Walk} {x : places.List} {r : Met} → MeetsList s s′ arena work z x r → After s s′ arena work z x r
+after-met : {s s′ : List ℕ} {arena : Arena} {work : ℕ} {z : states.Walk} {x : Span} {r : Met} → MeetsList s s′ arena work z x r → After s s′ arena work z x r
 after-met {s} {s′} {arena} {work} {z} {x} {r} m = go (met-case m)
   where
     go : MetCase s s′ arena work z x (m .old) r → After s s′ arena work z x r
     go (again old result words) = rw (result, words) (let paid = charges work 1 z in record {
       long = refl;
-      words = λ k _ _ _. refl;
+      front = λ k _ _ _. refl;
+      behind = λ k _ _ _. refl;
       list = refl;
       expansions = paid .expansions;
       operation = paid .operation;
@@ -116,7 +114,8 @@ after-met {s} {s′} {arena} {work} {z} {x} {r} m = go (met-case m)
     })
     go (refused old stop result words) = rw (result, words) (let paid = charges work (1 + lengthOf x) z in record {
       long = refl;
-      words = λ k _ _ _. refl;
+      front = λ k _ _ _. refl;
+      behind = λ k _ _ _. refl;
       list = refl;
       expansions = paid .expansions;
       operation = paid .operation;
@@ -125,9 +124,10 @@ after-met {s} {s′} {arena} {work} {z} {x} {r} m = go (met-case m)
       end = λ e. absurd (false≢true e);
       going = λ e. absurd (false≢true e);
     })
-    go (stored old go-on result words) = rw (result, words) (let paid = charges work (1 + lengthOf x) z in let kept = keeps arena (headAt arena s x) (z .known) x s in record {
+    go (stored old go-on result words) = rw (result, words) (let paid = charges work (1 + lengthOf x) z in let kept = keeps (registryOf arena) (z .known) x s in record {
       long = kept .long;
-      words = λ k aside link place. kept .words k link (not-head arena s x k aside) place;
+      front = kept .front;
+      behind = kept .behind;
       list = refl;
       expansions = paid .expansions;
       operation = paid .operation;
@@ -140,7 +140,7 @@ after-met {s} {s′} {arena} {work} {z} {x} {r} m = go (met-case m)
 -- ---- merged sets, expanded and met
 
 module _ {image : List ℕ} {arena : Arena} {work : ℕ} {s s₁ s₂ : List ℕ} {z : states.Walk} {x : Expansion} {end : ℕ} {m : Met}
-    (ample : Ample work 0 z) (begun : Begun z x) (expanded : Expanded image arena s s₁ x end)
+    (ample : Ample work 0 z) (begun : Begun z x) (expanded : Expanded image (areaOf arena) s s₁ x end)
     (met : MeetsList s₁ s₂ arena work (record { reply = z .reply; known = z .known; expansions = x .number }) (record { start = x .listed; end = end }) m)
     (starts : List ℕ) (site : Site image arena work (z .reply .operation) s z) (queued : Queued image arena work (z .reply .operation) s x starts) where
   op : ℕ
@@ -149,7 +149,7 @@ module _ {image : List ℕ} {arena : Arena} {work : ℕ} {s s₁ s₂ : List ℕ
   abbrev z₁ : states.Walk
   z₁ = record { reply = z .reply; known = z .known; expansions = x .number }
 
-  abbrev at-hand : places.List
+  abbrev at-hand : Span
   at-hand = record { start = x .listed; end = end }
 
   regions : Places image arena
@@ -158,20 +158,21 @@ module _ {image : List ℕ} {arena : Arena} {work : ℕ} {s s₁ s₂ : List ℕ
   low : z .known ≤ work
   low = omega (arith, ample .paid, site .within)
 
-  -- the links of what is known stand before the store
+  -- the registry has room for what is known, and for the list at hand
+  fits-more : Fits (registryOf arena) (suc (z .known))
+  fits-more = record { heads = heads-low regions; chain = omega (arith, site .chained, regions .store, low) }
+
+  -- its chain and the links of what is known lie before the store
+  chain-low : arena .chain + z .known < arena .links
+  chain-low = omega (arith, site .chained, low)
+
   spread-known : arena .links + 4 * z .known ≤ arena .store
   spread-known = omega (arith, site .spread, low)
 
-  spread-more : arena .links + 4 * suc (z .known) ≤ arena .store
-  spread-more = omega (arith, site .spread, low)
-
-  before-heads : (k : ℕ) → k < arena .marks → k < arena .heads
-  before-heads k h = omega (arith, regions .queue, regions .lasts, regions .heads)
-
-  listed : Listed image arena (document image) s s₁ x end starts
+  listed : Listed image (areaOf arena) (document image) s s₁ x end starts
   listed = expanded .lists _ _ starts (record {
     good = site .good;
-    regions = site .regions;
+    regions = area-for (site .regions);
     queue = queued .queue;
     allowed = queued .allowed;
     once = queued .once;
@@ -186,12 +187,13 @@ module _ {image : List ℕ} {arena : Arena} {work : ℕ} {s s₁ s₂ : List ℕ
   is-expand : flatMap (fieldsOf (document image)) (listed .visited) ≡ l
   is-expand = expand-queue (document image) (site .sound) starts (queued .hand) (listed .visited) (listed .walk)
 
-  list₁ : AtHand s₁ (arena .store) at-hand l
+  list₁ : StoredAt s₁ (arena .store) at-hand l
   list₁ = record { rows = listed-expand listed (site .sound) (queued .hand) }
 
   holds₁ : (y : State) → Holds s arena (z .reply .operation) z y → Holds s₁ arena (z .reply .operation) z₁ y
   holds₁ y h = record {
-    known = known-kept (z .known) (heads-low regions) (known-told (h .known)) (listed .frame .long) (λ k ge less. listed .frame .links k (omega (arith, regions .heads)) (omega (arith, spread-known)))
+    known = known-kept (heads-low regions) (listed .frame .long)
+        (λ k ge less. listed .frame .links k (omega (arith, regions .heads)) (omega (arith, chain-low, spread-known)))
         (λ k ge less. listed .frame .known k ge (omega (arith, begun .listed))) (h .known);
     reply = h .reply;
   }
@@ -199,25 +201,34 @@ module _ {image : List ℕ} {arena : Arena} {work : ℕ} {s s₁ s₂ : List ℕ
   left : After s₁ s₂ arena work z₁ at-hand m
   left = after-met met
 
+  -- a list that is met leaves the words in front of the registry
+  in-front-stays : (k : ℕ) → k < arena .lasts → getD s₂ k 0 ≡ getD s₁ k 0
+  in-front-stays k h = left .front k (omega (arith, regions .heads)) (omega (arith, regions .chain)) (omega (arith, regions .links, regions .store))
+
   kept : Kept image arena work (z .reply .operation) s s₂ z (m .walk)
   kept = record {
     long = left .long ∙ listed .frame .long;
-    parents = λ k h. left .words k (inl (before-heads k h)) (λ e. omega (arith, before-heads k h, regions .links)) (λ e. omega (arith, before-heads k h, regions .links, regions .store)) ∙ listed .frame .parents k h;
-    links = λ k h less. left .words k (inr (omega (arith, heads-low regions))) (λ e. omega arith) (λ e. omega (arith, spread-known)) ∙ listed .frame .links k (omega (arith, regions .heads, regions .links)) (omega (arith, spread-known));
-    known = λ k h less. left .words k (inr (omega (arith, heads-low regions, regions .store))) (λ e. omega (arith, spread-more)) (λ e. omega arith) ∙ listed .frame .known k h (omega (arith, begun .listed));
-    beyond = λ k h. left .words k (inr (omega (arith, heads-low regions, regions .store))) (λ e. omega (arith, spread-more)) (λ e. omega (arith, low)) ∙ listed .frame .beyond k (omega (arith, listed .most, begun .listed, low));
+    parents = λ k h. in-front-stays k (omega (arith, regions .queue, regions .lasts)) ∙ listed .frame .parents k h;
+    links = λ k h less.
+        left .behind k (omega (arith, heads-low regions, regions .links)) (λ e. omega (arith, chain-low)) (λ e. omega (arith, spread-known))
+        ∙ listed .frame .links k (omega (arith, regions .heads, regions .chain, regions .links)) (omega (arith, spread-known));
+    known = λ k h less.
+        left .behind k (omega (arith, heads-low regions, regions .links, regions .store)) (λ e. omega (arith, chain-low, regions .store)) (λ e. omega arith)
+        ∙ listed .frame .known k h (omega (arith, begun .listed));
+    beyond = λ k h.
+        left .behind k (omega (arith, heads-low regions, regions .links, regions .store)) (λ e. omega (arith, chain-low, regions .store)) (λ e. omega (arith, low))
+        ∙ listed .frame .beyond k (omega (arith, listed .most, begun .listed, low));
     grows = left .grows (omega (arith, listed .grows, begun .listed));
   }
 
   mark-stays : (j : ℕ) → j < countAt image fragments → getD s₂ (arena .marks + j) 0 ≡ getD s₁ (arena .marks + j) 0
-  mark-stays j h =
-      let low : arena .marks + j < arena .heads = omega (arith, regions .queue, regions .lasts, regions .heads) in
-      left .words (arena .marks + j) (inl low) (λ e. omega (arith, low, regions .links)) (λ e. omega (arith, low, regions .links, regions .store))
+  mark-stays j h = in-front-stays (arena .marks + j) (omega (arith, regions .queue, regions .lasts))
 
   site₂ : m .walk .reply .kind ≡ 0 → Site image arena work (z .reply .operation) s₂ (m .walk)
   site₂ at-0 = record {
     good = site .good;
     regions = site .regions;
+    chained = site .chained;
     spread = site .spread;
     sound = site .sound;
     parents = λ r h. kept .parents r (omega (arith, regions .names, regions .pairs, regions .marks)) ∙ site .parents r h;
@@ -239,7 +250,7 @@ module _ {image : List ℕ} {arena : Arena} {work : ℕ} {s s₁ s₂ : List ℕ
   unfolding walk walkList
   entered-same deeper P zero y h s″ z″ tells = tt
   entered-same deeper P (suc levels) y h s″ z″ tells =
-      rw (met-entered (z .reply .operation) met l list₁ y (holds₁ y h) deeper (heads-low regions) spread-more (begun .listed) (listed .grows) .2
+      rw (met-entered (z .reply .operation) met l list₁ y (holds₁ y h) deeper fits-more (begun .listed) (listed .grows) .2
       (walkParts (document image) P stop (z .reply .operation) (walk (document image) P stop (z .reply .operation) work levels) (P .parts l))) tells
 
   rows-l : Rows image arena work (z .reply .operation) l
@@ -249,16 +260,16 @@ module _ {image : List ℕ} {arena : Arena} {work : ℕ} {s s₁ s₂ : List ℕ
     once = rw (← is-expand) (listed .rows .fresh .once);
   }
 
-  list₂ : AtHand s₂ (arena .store) (m .list) l
-  list₂ = rw (left .list) (record { rows = stores-same (left .long) (λ k ge less. left .words k (inr (omega (arith, heads-low regions, regions .store))) (λ e. omega (arith, spread-more)) (λ e. omega (arith, begun .listed))) (list₁ .rows) })
+  list₂ : StoredAt s₂ (arena .store) (m .list) l
+  list₂ = rw (left .list) (record { rows = stores-same (left .long) (λ k ge less. left .behind k (omega (arith, heads-low regions, regions .links, regions .store)) (λ e. omega (arith, chain-low, regions .store)) (λ e. omega (arith, begun .listed))) (list₁ .rows) })
 
   -- where the list was entered it is linked
   module _ (deeper : m .deeper ≡ true) where
     start-is : m .list .start ≡ z .known + 1
-    start-is = ap (λ (k : places.List). k .start) (left .list) ∙ begun .listed
+    start-is = ap (λ (k : Span). k .start) (left .list) ∙ begun .listed
 
     end-is : m .list .end ≡ end
-    end-is = ap (λ (k : places.List). k .end) (left .list)
+    end-is = ap (λ (k : Span). k .end) (left .list)
 
     site-met : Site image arena work (z .reply .operation) s₂ (m .walk)
     site-met = site₂ (left .going deeper)
@@ -274,7 +285,7 @@ module _ {image : List ℕ} {arena : Arena} {work : ℕ} {s s₁ s₂ : List ℕ
             rows = row;
             classes = rw (regions .names) (site-met .classes .names-below);
             apart = omega (arith, regions .pairs, regions .marks, regions .queue, regions .lasts);
-            before = omega (arith, regions .heads, regions .links);
+            before = omega (arith, regions .heads, regions .chain, regions .links);
             below = omega (arith, fits, site .spread);
             inside = omega (arith, fits, site-met .room);
           };
@@ -282,7 +293,7 @@ module _ {image : List ℕ} {arena : Arena} {work : ℕ} {s s₁ s₂ : List ℕ
             rows = row;
             classes = rw (regions .pairs, regions .names) (site-met .classes .pairs-below);
             apart = omega (arith, regions .marks, regions .queue, regions .lasts);
-            before = omega (arith, regions .heads, regions .links, regions .small);
+            before = omega (arith, regions .heads, regions .chain, regions .links, regions .small);
             below = omega (arith, fits, site .spread, regions .small);
             inside = omega (arith, fits, site-met .room);
           };
@@ -311,6 +322,7 @@ module _ {image : List ℕ} {arena : Arena} {work : ℕ} {s s₁ s₂ : List ℕ
       site = record {
         good = site .good;
         regions = site .regions;
+        chained = site .chained;
         spread = site .spread;
         sound = site .sound;
         parents = λ r h. framed .front r (omega (arith, regions .names, regions .pairs, regions .marks, regions .queue, regions .lasts)) ∙ site-now .parents r h;
@@ -322,15 +334,19 @@ module _ {image : List ℕ} {arena : Arena} {work : ℕ} {s s₁ s₂ : List ℕ
       kept = record {
         long = framed .long ∙ kept .long;
         parents = λ k h. framed .front k (omega (arith, regions .queue, regions .lasts)) ∙ kept .parents k h;
-        links = λ k h less. framed .links k (omega (arith, heads-low regions)) (omega (arith, start-is deeper)) ∙ kept .links k h less;
+        links = λ k h less. framed .links k (omega (arith, heads-low regions, regions .links)) (omega (arith, start-is deeper)) ∙ kept .links k h less;
         known = λ k h less. framed .store k h ∙ kept .known k h less;
         beyond = λ k h. framed .store k (omega arith) ∙ kept .beyond k h;
         grows = kept .grows;
       };
       goes = λ y h.
-          let met-now = met-entered (z .reply .operation) met l list₁ y (holds₁ y h) deeper (heads-low regions) spread-more (begun .listed) (listed .grows) in
-          let was = met-now .0 in
-          record { known = known-kept (x .listed) (heads-low regions) (met-now .3) (framed .long) (λ k ge less. framed .links k ge (omega (arith, start-is deeper, begun .listed))) (λ k ge less. framed .store k ge) (was .known); reply = was .reply };
+          let was = met-entered (z .reply .operation) met l list₁ y (holds₁ y h) deeper fits-more (begun .listed) (listed .grows) .0 in
+          let end-fits : m .walk .known ≤ work + 1 + countAt image selections = omega (arith, left .end deeper, fits deeper, end-is deeper) in
+          record {
+            known = known-kept (heads-low regions) (framed .long)
+                (λ k ge less. framed .links k ge (omega (arith, site .chained, end-fits))) (λ k ge less. framed .store k ge) (was .known);
+            reply = was .reply;
+          };
       same = entered-same deeper (passOf image isShape);
     }
 
@@ -343,7 +359,7 @@ pub data Linking (arena : Arena) (isShape : Bool) (s s′ : List ℕ) (m : Met) 
   leaves-it : m .deeper ≡ false → s′ ≡ s → Linking arena isShape s s′ m
 
 pub meets-sets : {image : List ℕ} {arena : Arena} {work : ℕ} {s s₁ s₂ s′ : List ℕ} {z : states.Walk} {x : Expansion} {end : ℕ} {isShape : Bool} {m : Met}
-    → Ample work 0 z → Begun z x → Expanded image arena s s₁ x end
+    → Ample work 0 z → Begun z x → Expanded image (areaOf arena) s s₁ x end
     → MeetsList s₁ s₂ arena work (record { reply = z .reply; known = z .known; expansions = x .number }) (record { start = x .listed; end = end }) m
     → Linking arena isShape s₂ s′ m → MeetsSets image arena work s s′ z x isShape m
 meets-sets {image} {arena} {work} {s} {s₂ = s₂} {s′ = s′} {z = z} {x = x} {isShape = isShape} {m = m} ample begun expanded met linking = record {

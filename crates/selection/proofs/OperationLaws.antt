@@ -2,10 +2,10 @@
 use mathlib.Core.Path.{_≡_, sym, _∙_, subst}
 use mathlib.Core.Bool.{Bool, true, false}
 use mathlib.Core.List.{List, [], _∷_}
-use Prim.Native.Nat.{ℕ, suc, _+_, _-_, _≤_, _<_, min}
+use Prim.Native.Nat.{ℕ, suc, _+_, _-_, _≤_, _<_}
 use native.Mathlib.Omega.{arith}
-use lib.ListN.{length, replicate}
-use Rattle.lists.specs.Part.{write, Stores, Outside}
+use lib.ListN.{length}
+use Rattle.lists.specs.Part.{Stores, Outside}
 use Rattle.lists.proofs.Parts.{stores-none, outside-wider}
 use Rattle.merge_theory.specs.Rule.{Reached, start}
 use Rattle.merge_theory.specs.Steps.{Step, stop}
@@ -14,16 +14,17 @@ use Rattle.merge_theory.proofs.ListLaws.{not-in-nil, only}
 use Rattle.tables.specs.Layout.{operations, fragments, sets}
 use Rattle.tables.specs.Image.{countAt}
 use Rattle.selection.specs.declared.arena.Arena.{Arena}
+use Rattle.selection.specs.Regions.{areaOf, registryOf}
 use Rattle.selection.specs.declared.arena.Walk as states
-use Rattle.selection.specs.declared.expand.Expansion.{Expansion}
+use Rattle.expand.specs.declared.Expansion.{Expansion}
 use Rattle.selection.specs.declared.walk.Met.{Met}
-use Rattle.selection.specs.ImageDocument.{limitOfLinks}
-use Rattle.selection.specs.Expanding.{queueNext, queueWords, once-none, once-more, StartSet, of-operation}
+use Rattle.expand.specs.ImageDocument.{limitOfLinks}
+use Rattle.expand.specs.Expanding.{queueNext, queueWords, once-none, once-more, StartSet, of-operation}
 use Rattle.selection.specs.Refining.{paidFor, document, passOf, Ample, Begun, Site, Refines, Meets, MeetsSets, WalksList}
 use Rattle.selection.specs.Validating.{forgotten, MeetsOperation, Runs}
-use Rattle.selection.proofs.ExpandedLaws.{queue-next, queue-stores, queue-outside}
-use Rattle.selection.proofs.ClearLaws.{Cleared, cleared}
-use Rattle.selection.proofs.KnownLaws.{known-none}
+use Rattle.expand.proofs.ExpandedLaws.{queue-next, queue-stores, queue-outside}
+use Rattle.known.specs.KnownLists.{forgottenWords}
+use Rattle.known.proofs.KnownLaws.{Forgets, forgets}
 use Rattle.selection.proofs.RefineLaws.{kept-trans, then-go, by}
 use Rattle.selection.proofs.StandLaws.{classed-kept, heads-low, in-front, site-queue}
 use Rattle.selection.proofs.QueueingLaws.{next-listed}
@@ -57,6 +58,7 @@ pub site-forgotten : {image : List ℕ} {arena : Arena} {work op : ℕ} {s : Lis
 site-forgotten site = record {
   good = site .good;
   regions = site .regions;
+  chained = site .chained;
   spread = site .spread;
   sound = site .sound;
   parents = site .parents;
@@ -69,11 +71,11 @@ site-forgotten site = record {
 pub ample-forgotten : {work : ℕ} {z : states.Walk} → Ample work 0 z → Ample work 0 (forgotten z)
 ample-forgotten a = record { going = a .going; paid = omega arith; few = omega arith; counted = a .counted; countable = a .countable; budget = a .budget }
 
-pub begun-set : (arena : Arena) {z : states.Walk} {x₀ x : Expansion} → Begun z x₀ → x ≡ queueNext arena x₀ → Begun z x
+pub begun-set : (arena : Arena) {z : states.Walk} {x₀ x : Expansion} → Begun z x₀ → x ≡ queueNext (areaOf arena) x₀ → Begun z x
 begun-set arena {z} {x₀} begun e = rw e (record { listed = next-listed arena x₀ .0 ∙ begun .listed; number = next-listed arena x₀ .1 ∙ begun .number })
 
 pub operation-met : {image : List ℕ} {arena : Arena} {work operation : ℕ} {s s₁ s′ : List ℕ} {z : states.Walk} (x₀ : Expansion) {x : Expansion} {isShape : Bool} {m : Met} → Ample work 0 z → x₀ .queued ≡ 0
-    → x ≡ queueNext arena x₀ → s₁ ≡ queueWords arena x₀ s operation → MeetsSets image arena work s₁ s′ (forgotten z) x isShape m → MeetsOperation image arena work operation s s′ z isShape m
+    → x ≡ queueNext (areaOf arena) x₀ → s₁ ≡ queueWords (areaOf arena) x₀ s operation → MeetsSets image arena work s₁ s′ (forgotten z) x isShape m → MeetsOperation image arena work operation s s′ z isShape m
 operation-met {image} {arena} {work} {operation} {s} {s₁} {s′} {z} x₀ {x} {m} ample empty next words met = record {
   same = met .operation;
   going = met .going;
@@ -83,12 +85,12 @@ operation-met {image} {arena} {work} {operation} {s} {s₁} {s′} {z} x₀ {x} 
       let site₀ = site-forgotten site in
       let some-sets : operation < countAt image sets = omega (arith, site .good .own-sets, row) in
       let room : arena .queue + x₀ .queued < arena .lasts = omega (arith, r .lasts, some-sets, empty) in
-      let inside : arena .lasts ≤ length s = omega (arith, site .room, r .heads, r .links, r .store) in
+      let inside : arena .lasts ≤ length s = omega (arith, site .room, r .heads, r .chain, r .links, r .store) in
       let nothing : Stores s (arena .queue) (x₀ .queued) [] = rw empty (stores-none s (arena .queue) (omega (arith, inside, r .lasts))) in
-      let o : Outside (arena .queue) (arena .lasts - arena .queue) s s₁ = rw words (outside-wider (queue-outside arena x₀ s operation room) (arena .queue) (arena .lasts - arena .queue) (omega arith) (omega (arith, room))) in
-      let one : x .queued ≡ x₀ .queued + 1 = rw (next, queue-next arena x₀ s operation room) in
+      let o : Outside (arena .queue) (arena .lasts - arena .queue) s s₁ = rw words (outside-wider (queue-outside (areaOf arena) x₀ s operation room) (arena .queue) (arena .lasts - arena .queue) (omega arith) (omega (arith, room))) in
+      let one : x .queued ≡ x₀ .queued + 1 = rw (next, queue-next (areaOf arena) x₀ s operation room) in
       meets-aside site₀ o (ample .going) (met .meets (operation ∷ []) (site-queue site₀ o) (record {
-        queue = rw (one, words) (queue-stores arena x₀ s operation room nothing inside);
+        queue = rw (one, words) (queue-stores (areaOf arena) x₀ s operation room nothing inside);
         allowed = only (StartSet image) (of-operation row);
         once = once-more not-in-nil once-none;
         hand = only (Reached (document image) (z .reply .operation)) (rw is start);
@@ -99,14 +101,14 @@ operation-met {image} {arena} {work} {operation} {s} {s₁} {s′} {z} x₀ {x} 
 
 -- the words once all known lists are forgotten
 abbrev emptied : Arena → List ℕ → List ℕ
-emptied arena s = write s (arena .heads) (replicate (min (arena .names + 1) (length s - arena .heads)) 0)
+emptied arena s = forgottenWords (registryOf arena) s
 
 module _ {image : List ℕ} {arena : Arena} {work op : ℕ} {s s₀ : List ℕ} {z : states.Walk} (forgot : s₀ ≡ emptied arena s) (site : Site image arena work op s z) where
-  heads-clear : Cleared (arena .heads) (arena .names + 1) s s₀
-  heads-clear = let r = site .regions in cleared forgot (omega (arith, site .room, r .names, r .links, r .store))
+  forgets-all : Forgets (registryOf arena) s s₀
+  forgets-all = let r = site .regions in rw forgot (forgets (registryOf arena) s (omega (arith, site .room, heads-low r, r .links, r .store)))
 
   spares : Outside (arena .heads) (arena .names + 1) s s₀
-  spares = heads-clear .outside
+  spares = forgets-all .frame
 
   before-heads : arena .marks + countAt image fragments ≤ arena .heads
   before-heads = let r = site .regions in omega (arith, r .queue, r .lasts, r .heads)
@@ -115,6 +117,7 @@ module _ {image : List ℕ} {arena : Arena} {work op : ℕ} {s s₀ : List ℕ} 
   site-emptied = record {
     good = site .good;
     regions = site .regions;
+    chained = site .chained;
     spread = site .spread;
     sound = site .sound;
     parents = λ k h. spares .below k (omega (arith, in-front (site .regions), before-heads)) ∙ site .parents k h;
@@ -141,9 +144,9 @@ runs-by {arena = arena} forgot long same ample refines = record {
       record {
         long = long;
         below = λ i h. k .parents i h ∙ o .below i (omega (arith, before-heads forgot site));
-        beyond = λ i h. k .beyond i h ∙ o .above i (omega (arith, heads-low r, r .store));
+        beyond = λ i h. k .beyond i h ∙ o .above i (omega (arith, heads-low r, r .links, r .store));
       };
-  tells = λ y site is row reply. refines (site-emptied forgot site) is row .tells (fresh y) (record { known = known-none (λ key h. heads-clear forgot site .empty key (omega arith)); reply = reply });
+  tells = λ y site is row reply. refines (site-emptied forgot site) is row .tells (fresh y) (record { known = forgets-all forgot site .known; reply = reply });
 }
 
 module _ {image : List ℕ} {arena : Arena} {work operation : ℕ} {s s₀ s₁ : List ℕ} {z : states.Walk} {m : Met} (isShape : Bool) (forgot : s₀ ≡ emptied arena s) (long₁ : length s₁ ≡ length s)

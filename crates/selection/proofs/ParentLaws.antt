@@ -14,14 +14,14 @@ use Rattle.merge_theory.specs.Groups.{fieldsWith, abstracts}
 use Rattle.merge_theory.proofs.ListLaws.{from-filter, in-append}
 use Rattle.selection.specs.declared.arena.Arena.{Arena}
 use Rattle.selection.specs.declared.arena.Walk as states
-use Rattle.selection.specs.declared.arena.List as places
+use Rattle.lists.specs.declared.Span.{Span}
 use Rattle.selection.specs.declared.groups.Part.{Part}
 use Rattle.selection.specs.declared.groups.Cursor.{Cursor}
 use Rattle.selection.specs.Places.{rowIn}
 use Rattle.selection.specs.Grouping.{hasObjectParent, subgroupPart}
 use Rattle.selection.specs.Following.{groupFound, FirstSubgroup, Open, NextSubgroup}
 use Rattle.selection.specs.Refining.{document, Ample, Rows, WalksList}
-use Rattle.selection.proofs.OnceLaws.{once-append}
+use Rattle.expand.proofs.OnceLaws.{once-append}
 use Rattle.selection.proofs.PlaceLaws.{seek-ge}
 use Rattle.selection.proofs.PartLaws.{fieldAt, Opened, Along, subgroupAt, subgroupsAfter, subgroupsFrom, subgroup-part, same-name, open-group, step-on, subgroups-start}
 use Rattle.selection.proofs.FollowLaws.{group-is}
@@ -31,7 +31,7 @@ use Rattle.selection.proofs.ShapeLaws.{rows-filter}
 
 -- ---- whatever the words are
 
-module _ (image s : List ℕ) (store : ℕ) (x : places.List) where
+module _ (image s : List ℕ) (store : ℕ) (x : Span) where
   pub subgroup-list : (c : Cursor) {part : Part} → part ≡ subgroupPart image s store x c → part .list ≡ x
   unfolding subgroupPart
   subgroup-list c e = rw e (either (hasObjectParent image s (rowIn s store (c .first))) _ _ refl refl)
@@ -44,7 +44,7 @@ module _ (image s : List ℕ) (store : ℕ) (x : places.List) where
 abbrev pub toGo : ℕ → Cursor → ℕ
 toGo end c = (end - c .group) * 4294967296 + (end - c .first)
 
-pub goes-down : (image s : List ℕ) (arena : Arena) (x : places.List) (c c′ : Cursor) → x .end < 4294967296 → c .group < x .end → c .first < x .end → NextSubgroup image s arena x c c′
+pub goes-down : (image s : List ℕ) (arena : Arena) (x : Span) (c c′ : Cursor) → x .end < 4294967296 → c .group < x .end → c .first < x .end → NextSubgroup image s arena x c c′
     → toGo (x .end) c′ < toGo (x .end) c
 goes-down image s arena x c c′ small less first a = ⊎-elim (λ h. same-group (h .0) (h .1)) (λ h. omega arith) (a .further)
   where
@@ -64,7 +64,7 @@ rows-append xs ys p q apart = record {
   once = once-append xs (p .once) (q .once) apart;
 }
 
-rows-subgroup : {image : List ℕ} {arena : Arena} {work op : ℕ} (x : places.List) (l : List ℕ) (c : Cursor) → Rows image arena work op l → Rows image arena work op (subgroupAt (document image) x l c)
+rows-subgroup : {image : List ℕ} {arena : Arena} {work op : ℕ} (x : Span) (l : List ℕ) (c : Cursor) → Rows image arena work op l → Rows image arena work op (subgroupAt (document image) x l c)
 unfolding subgroupAt abstracts fieldsWith
 rows-subgroup {image} {arena} {work} {op} x l c r = go (D .isObject (D .parentOf (fieldAt x l (c .first)))) refl
   where
@@ -98,7 +98,7 @@ rows-subgroup {image} {arena} {work} {op} x l c r = go (D .isObject (D .parentOf
 
 -- ---- the loop
 
-module _ {image : List ℕ} {arena : Arena} {work : ℕ} {s₀ s : List ℕ} {z₀ z : states.Walk} {x : places.List} {levels : ℕ} where
+module _ {image : List ℕ} {arena : Arena} {work : ℕ} {s₀ s : List ℕ} {z₀ z : states.Walk} {x : Span} {levels : ℕ} where
   -- a subgroup is walked
   pub parent-turn : (c : Cursor) {s′ : List ℕ} {z′ : states.Walk} {part : Part} → PassLoop image arena work s₀ s z₀ z x false levels (λ l rest. Along (document image) x l c rest) → Ample work 0 z
       → c .group < x .end → part ≡ subgroupPart image s (arena .store) x c → Stepped image arena work s s′ z part false levels z′
@@ -116,7 +116,7 @@ module _ {image : List ℕ} {arena : Arena} {work : ℕ} {s₀ s : List ℕ} {z�
       }
 
 -- the next subgroup is found
-pub parent-found : {image : List ℕ} {arena : Arena} {work : ℕ} {s₀ s : List ℕ} {z₀ z : states.Walk} {x : places.List} {levels : ℕ} (c : Cursor) {c′ : Cursor}
+pub parent-found : {image : List ℕ} {arena : Arena} {work : ℕ} {s₀ s : List ℕ} {z₀ z : states.Walk} {x : Span} {levels : ℕ} (c : Cursor) {c′ : Cursor}
     → PassLoop image arena work s₀ s z₀ z x false levels (λ l rest. Opened (document image) x l c × (rest ≡ subgroupsAfter (document image) x l c)) → z .reply .kind ≡ 0
     → NextSubgroup image s arena x c c′ → PassLoop image arena work s₀ s z₀ z x false levels (λ l rest. Along (document image) x l c′ rest)
 parent-found {image} {arena} {s = s} {x = x} c {c′} loop go next =
@@ -125,7 +125,7 @@ parent-found {image} {arena} {s = s} {x = x} c {c′} loop go next =
     let open-now : Open image s arena x c = record { from = left .0 .from; ahead = left .0 .ahead; below = left .0 .below; named = same-name G c (left .0) } in
     rw (left .1, next .is (threaded site listed stands) open-now) (step-on G c (left .0))
 
-pub parent-first : {image : List ℕ} {arena : Arena} {work : ℕ} {s : List ℕ} {z : states.Walk} (x : places.List) (levels : ℕ) {q : ℕ} {c : Cursor} → Ample work 0 z
+pub parent-first : {image : List ℕ} {arena : Arena} {work : ℕ} {s : List ℕ} {z : states.Walk} (x : Span) (levels : ℕ) {q : ℕ} {c : Cursor} → Ample work 0 z
     → q ≡ groupFound s arena (x .start) (x .end) → FirstSubgroup image s arena x q c
     → PassLoop image arena work s s z z x false levels (λ l rest. Along (document image) x l c rest)
 parent-first {image} {arena} {s = s} x levels {q} {c} ample is first =
@@ -135,6 +135,6 @@ parent-first {image} {arena} {s = s} x levels {q} {c} ample is first =
     let from : x .start ≤ q = rw is (seek-ge _ (x .start) (x .end)) in
     rw (left, first .is t from) (open-group (grounded site listed (stands .rows)) (x .start) (le-refl (x .start)) (is ∙ group-is t (x .start) (le-refl (x .start))))
 
-pub parent-end : {image : List ℕ} {arena : Arena} {work : ℕ} {s₀ s : List ℕ} {z₀ z : states.Walk} {x : places.List} {levels : ℕ} (c : Cursor)
+pub parent-end : {image : List ℕ} {arena : Arena} {work : ℕ} {s₀ s : List ℕ} {z₀ z : states.Walk} {x : Span} {levels : ℕ} (c : Cursor)
     → PassLoop image arena work s₀ s z₀ z x false levels (λ l rest. Along (document image) x l c rest) → x .end ≤ c .group → (level : ℕ) → level ≡ suc levels → WalksList image arena work s₀ s z₀ x false level z
 parent-end c loop past level is = loop-end loop level is (λ l rest left. left .over past)

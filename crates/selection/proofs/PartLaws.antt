@@ -16,23 +16,23 @@ use Rattle.merge_theory.specs.Lists.{flatMap, filter, keep, isIn}
 use Rattle.merge_theory.specs.Document.{Document}
 use Rattle.merge_theory.specs.Groups.{fieldsWith, keysOf, groups, concretes, abstracts, subgroupsBy, subgroups}
 use Rattle.merge_theory.proofs.Loops.{filter-append}
-use Rattle.selection.specs.declared.arena.List as places
+use Rattle.lists.specs.declared.Span.{Span}
 use Rattle.selection.specs.declared.groups.Segment.{Segment}
 use Rattle.selection.specs.declared.groups.Cursor.{Cursor}
-use Rattle.selection.specs.KnownLists.{AtHand}
+use Rattle.lists.specs.Part.{StoredAt}
 use Rattle.selection.specs.Places.{seek, rowIn, before, onward, appears, freshFrom}
 use Rattle.selection.specs.Grouping.{ofKind, member, segment, everyParent, oneParent, abstractParent, hasObjectParent, belongs, memberPlace, nameAt, parentAt, isFirstOfName, opensSubgroup, groupPlace, subgroupPlace, firstSubgroup, laterSubgroup, nextSubgroup, groupPart, subgroupPart, partRows, othersPlace, Grounded, PartAt, of-all, of-object, of-others}
 use Rattle.selection.proofs.PlaceLaws.{row-is, eqb-sym, none-seen, fresh-rest, seek-ge, seek-skips, seek-passes, Found, found, found-row, filter-skip, filter-cong, filter-filter, onward-start, onward-over, before-start, appears-by, fresh-all, fresh-here, fresh-skip, fresh-over}
 
 -- what a search for the first appearance of a key found
-pub record FoundKey (key : ℕ → ℕ) (among : ℕ → Bool) (x : places.List) (l : List ℕ) (from q row : ℕ) : Type 0 where
+pub record FoundKey (key : ℕ → ℕ) (among : ℕ → Bool) (x : Span) (l : List ℕ) (from q row : ℕ) : Type 0 where
   pub ahead : from ≤ q
   pub over : x .end ≤ q → freshFrom key among x l from ≡ []
   pub here : q < x .end → freshFrom key among x l from ≡ key row ∷ freshFrom key among x l (q + 1)
   pub same : freshFrom key among x l from ≡ freshFrom key among x l q
   pub opens : q < x .end → appears key among (before x l q) row ≡ true
 
-pub found-key : {s : List ℕ} {store : ℕ} {x : places.List} {l : List ℕ} (key : ℕ → ℕ) (among : ℕ → Bool) (list : AtHand s store x l) (test : ℕ → Bool) (from : ℕ) {q : ℕ}
+pub found-key : {s : List ℕ} {store : ℕ} {x : Span} {l : List ℕ} (key : ℕ → ℕ) (among : ℕ → Bool) (list : StoredAt s store x l) (test : ℕ → Bool) (from : ℕ) {q : ℕ}
     → x .start ≤ from → ((p : ℕ) → x .start ≤ p → p < x .end → test p ≡ appears key among (before x l p) (rowIn s store p))
     → q ≡ seek test from (x .end) → FoundKey key among x l from q (rowIn s store q)
 found-key {s} {store} {x} {l} key among list test from {q} low agree e =
@@ -90,7 +90,7 @@ same-parent D name parent f object = go (eqb (D .nameOf f) name) (ℕ-discrete (
     go true (no ne) = rw (ne-eqb _ _ ne) (sym (and-false (D .isObject (D .parentOf f))))
 
 -- the field at a place of the list
-abbrev pub fieldAt : places.List → List ℕ → ℕ → ℕ
+abbrev pub fieldAt : Span → List ℕ → ℕ → ℕ
 fieldAt x l p = getD l (p - x .start) 0
 
 -- the fields of a name whose parents are no objects
@@ -98,7 +98,7 @@ abbrev pub others : Document → ℕ → ℕ → Bool
 others D name = member D (segment name abstractParent 0)
 
 -- an open subgroup: its group is one, and it is that of an object parent, or all of a group where there is no such parent
-pub record Opened (D : Document) (x : places.List) (l : List ℕ) (c : Cursor) : Type 0 where
+pub record Opened (D : Document) (x : Span) (l : List ℕ) (c : Cursor) : Type 0 where
   pub from : x .start ≤ c .group
   pub ahead : c .group ≤ c .first
   pub below : c .first < x .end
@@ -107,7 +107,7 @@ pub record Opened (D : Document) (x : places.List) (l : List ℕ) (c : Cursor) :
       ⊎ ((D .isObject (D .parentOf (fieldAt x l (c .first))) ≡ false) × (c .first ≡ c .group))
   pub rest : Found (others D (D .nameOf (fieldAt x l (c .group)))) x l (c .group) (c .others) (fieldAt x l (c .others))
 
-module _ (D : Document) (x : places.List) (l : List ℕ) where
+module _ (D : Document) (x : Span) (l : List ℕ) where
   -- a group by its name, and the subgroup of one of its object parents
   abbrev pub groupNamed : ℕ → List ℕ
   groupNamed name = fieldsWith (D .nameOf) l name
@@ -154,12 +154,12 @@ none-named D name (y ∷ ys) e = go (eqb name (D .nameOf y)) refl (none-named D 
     go false h rest f = rw (eqb-sym (D .nameOf y) name ∙ h) (rest f)
 
 -- the parts from a cursor on: none past the end, else the subgroup there and those behind it
-pub record Along (D : Document) (x : places.List) (l : List ℕ) (c : Cursor) (rest : List (List ℕ)) : Type 0 where
+pub record Along (D : Document) (x : Span) (l : List ℕ) (c : Cursor) (rest : List (List ℕ)) : Type 0 where
   pub over : x .end ≤ c .group → rest ≡ []
   pub here : c .group < x .end → Opened D x l c
   pub next : c .group < x .end → rest ≡ subgroupAt D x l c ∷ subgroupsAfter D x l c
 
-module _ {D : Document} {image s : List ℕ} {store : ℕ} {x : places.List} {l : List ℕ} (G : Grounded D image s store x l) where
+module _ {D : Document} {image s : List ℕ} {store : ℕ} {x : Span} {l : List ℕ} (G : Grounded D image s store x l) where
   pub belongs-is : (g : Segment) (p : ℕ) → x .start ≤ p → p < x .end → belongs image s g (rowIn s store p) ≡ member D g (rowIn s store p)
   unfolding belongs member
   belongs-is g p low less = rw (G .names (rowIn s store p), G .parents p low less, G .objects (D .parentOf (rowIn s store p)))
@@ -502,10 +502,10 @@ module _ {D : Document} {image s : List ℕ} {store : ℕ} {x : places.List} {l 
 
 -- ---- the parts of a list, from the beginning
 
-pub groups-start : (D : Document) (x : places.List) (l : List ℕ) → groups D l ≡ groupsFrom D x l (x .start)
+pub groups-start : (D : Document) (x : Span) (l : List ℕ) → groups D l ≡ groupsFrom D x l (x .start)
 unfolding groups
 groups-start D x l =
     rw (before-start x l, onward-start x l) (ap (map (fieldsWith (D .nameOf) l)) (ap (keysOf (D .nameOf)) (sym (filter-all l)) ∙ fresh-all (D .nameOf) all l))
 
-pub subgroups-start : (D : Document) (x : places.List) (l : List ℕ) → flatMap (subgroups D) (groups D l) ≡ subgroupsFrom D x l (x .start)
+pub subgroups-start : (D : Document) (x : Span) (l : List ℕ) → flatMap (subgroups D) (groups D l) ≡ subgroupsFrom D x l (x .start)
 subgroups-start D x l = ap (flatMap (subgroups D)) (groups-start D x l)

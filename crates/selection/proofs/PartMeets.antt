@@ -15,7 +15,7 @@ use Rattle.merge_theory.specs.Walk.{against, compareFirst, descend, setsBelow, 
 use Rattle.tables.specs.Layout.{sets}
 use Rattle.selection.specs.declared.arena.Arena.{Arena}
 use Rattle.selection.specs.declared.arena.Walk as states
-use Rattle.selection.specs.declared.expand.Expansion.{Expansion}
+use Rattle.expand.specs.declared.Expansion.{Expansion}
 use Rattle.selection.specs.declared.groups.Part.{Part}
 use Rattle.selection.specs.declared.walk.Met.{Met}
 use Rattle.selection.specs.Standing.{Stands}
@@ -25,7 +25,7 @@ use Rattle.selection.specs.Comparing.{ComparesPart, QueuesPart, Queues, 
 use Rattle.selection.specs.Places.{rowIn}
 use Rattle.selection.proofs.RefineLaws.{some-kind, kept-none, kept-trans, then-go, then-stop, by, idle}
 use Rattle.selection.proofs.QueueingLaws.{field-kind-of, field-sets}
-use Rattle.selection.proofs.KnownLaws.{known-told, known-kept}
+use Rattle.known.proofs.KnownLaws.{known-kept}
 use Rattle.selection.proofs.StandLaws.{heads-low, grounded, threaded, site-queue}
 use Rattle.selection.proofs.BelowLaws.{below-start, below-hand, below-once, below-few}
 
@@ -98,16 +98,17 @@ aside {image} {arena} {work} {op} {s} {s′} {z} site o =
     let r = site .regions in
     record {
       tells = λ y h. record {
-        known = known-kept (z .known) (heads-low r) (known-told (h .known)) (o .long) (λ k ge less. o .above k (omega (arith, r .lasts, r .heads))) (λ k ge less. o .above k (omega (arith, r .lasts, r .heads, r .links, r .store))) (h .known);
+        known = known-kept (heads-low r) (o .long)
+            (λ k ge less. o .above k (omega (arith, r .lasts, r .heads))) (λ k ge less. o .above k (omega (arith, r .lasts, r .heads, r .chain, r .links, r .store))) (h .known);
         reply = h .reply;
       };
       site = λ _. site-queue site o;
       kept = record {
         long = o .long;
         parents = λ k h. o .below k (omega (arith, r .queue));
-        links = λ k h less. o .above k (omega (arith, r .lasts, r .heads, r .links));
-        known = λ k h less. o .above k (omega (arith, r .lasts, r .heads, r .links, r .store));
-        beyond = λ k h. o .above k (omega (arith, r .lasts, r .heads, r .links, r .store));
+        links = λ k h less. o .above k (omega (arith, r .lasts, r .heads, r .chain, r .links));
+        known = λ k h less. o .above k (omega (arith, r .lasts, r .heads, r .chain, r .links, r .store));
+        beyond = λ k h. o .above k (omega (arith, r .lasts, r .heads, r .chain, r .links, r .store));
         grows = omega arith;
       };
     }
@@ -151,7 +152,7 @@ module _ {image : List ℕ} {arena : Arena} {work : ℕ} {s : List ℕ} {z z₁ 
         stands = stands;
         ordered = ordered;
         listed = listed;
-        queue = rw empty (stores-none s (arena .queue) (omega (arith, site .room, site .regions .lasts, site .regions .heads, site .regions .links, site .regions .store)));
+        queue = rw empty (stores-none s (arena .queue) (omega (arith, site .room, site .regions .lasts, site .regions .heads, site .regions .chain, site .regions .links, site .regions .store)));
         fits = omega (arith, below-few site fields, site .regions .lasts);
       })
 

@@ -17,8 +17,8 @@ use Rattle.lists.proofs.Parts.{le-or-lt, stores-length, stores-getD}
 use Rattle.merge_theory.specs.Lists.{keep, filter, isIn, distinct}
 use Rattle.merge_theory.specs.Groups.{keysOf}
 use Rattle.merge_theory.proofs.Loops.{filter-append, map-append}
-use Rattle.selection.specs.declared.arena.List as places
-use Rattle.selection.specs.KnownLists.{AtHand}
+use Rattle.lists.specs.declared.Span.{Span}
+use Rattle.lists.specs.Part.{StoredAt}
 use Rattle.selection.specs.Places.{seek, rowIn, before, onward, appears, freshKeys, freshFrom}
 
 -- ---- a search
@@ -112,7 +112,7 @@ seek-cong t u from end same =
 
 -- ---- the rows of a list, by place
 
-module _ {s : List ℕ} {store : ℕ} {x : places.List} {l : List ℕ} (list : AtHand s store x l) where
+module _ {s : List ℕ} {store : ℕ} {x : Span} {l : List ℕ} (list : StoredAt s store x l) where
   pub rows-length : length l ≡ x .end - x .start
   rows-length = stores-length (list .rows)
 
@@ -139,18 +139,18 @@ module _ {s : List ℕ} {store : ℕ} {x : places.List} {l : List ℕ} (list : A
   unfolding onward
   onward-over p h = let long = rows-length in drop-of-length-le l {i = p - x .start} (omega arith)
 
-pub onward-start : (x : places.List) (l : List ℕ) → onward x l (x .start) ≡ l
+pub onward-start : (x : Span) (l : List ℕ) → onward x l (x .start) ≡ l
 unfolding onward
 onward-start x l = let none : x .start - x .start ≡ 0 = omega arith in rw none
 
-pub before-start : (x : places.List) (l : List ℕ) → before x l (x .start) ≡ []
+pub before-start : (x : Span) (l : List ℕ) → before x l (x .start) ≡ []
 unfolding before
 before-start x l = let none : x .start - x .start ≡ 0 = omega arith in rw none
 
 -- ---- the rows from a place on that pass a test
 
 -- what a search from `from` found: q is the place of the first row that passes
-pub record Found (t : ℕ → Bool) (x : places.List) (l : List ℕ) (from q row : ℕ) : Type 0 where
+pub record Found (t : ℕ → Bool) (x : Span) (l : List ℕ) (from q row : ℕ) : Type 0 where
   pub ahead : from ≤ q
   pub same : filter t (onward x l from) ≡ filter t (onward x l q)
   pub over : x .end ≤ q → filter t (onward x l from) ≡ []
@@ -158,7 +158,7 @@ pub record Found (t : ℕ → Bool) (x : places.List) (l : List ℕ) (from q row
   pub passes : q < x .end → t row ≡ true
 
 -- the same row, said in another way
-pub found-row : {t : ℕ → Bool} {x : places.List} {l : List ℕ} {from q row row′ : ℕ} → Found t x l from q row → (q < x .end → row ≡ row′) → Found t x l from q row′
+pub found-row : {t : ℕ → Bool} {x : Span} {l : List ℕ} {from q row row′ : ℕ} → Found t x l from q row → (q < x .end → row ≡ row′) → Found t x l from q row′
 found-row {t} {x} {l} {from} {q} f is = record {
   ahead = f .ahead;
   same = f .same;
@@ -167,7 +167,7 @@ found-row {t} {x} {l} {from} {q} f is = record {
   passes = λ less. ap t (sym (is less)) ∙ f .passes less;
 }
 
-module _ {s : List ℕ} {store : ℕ} {x : places.List} {l : List ℕ} (list : AtHand s store x l) (t : ℕ → Bool) where
+module _ {s : List ℕ} {store : ℕ} {x : Span} {l : List ℕ} (list : StoredAt s store x l) (t : ℕ → Bool) where
   pub filter-here : (p : ℕ) → x .start ≤ p → p < x .end → t (rowIn s store p) ≡ true → filter t (onward x l p) ≡ rowIn s store p ∷ filter t (onward x l (p + 1))
   unfolding filter
   filter-here p h less yes-t = rw (onward-here list p h less, yes-t)
@@ -279,7 +279,7 @@ module _ (key : ℕ → ℕ) (among : ℕ → Bool) where
   unfolding filter
   fresh-all rows = sym (fresh-rest [] rows ∙ none-seen (keysOf key (filter among rows)))
 
-  module _ {s : List ℕ} {store : ℕ} {x : places.List} {l : List ℕ} (list : AtHand s store x l) where
+  module _ {s : List ℕ} {store : ℕ} {x : Span} {l : List ℕ} (list : StoredAt s store x l) where
     -- whether a key was seen, one row further on
     seen-more : (k q : ℕ) → x .start ≤ q → q < x .end
         → isIn k (map key (filter among (before x l (q + 1)))) ≡ (isIn k (map key (filter among (before x l q))) || (among (rowIn s store q) && eqb (key (rowIn s store q)) k))

@@ -16,7 +16,7 @@ use Rattle.selection.specs.Regions.{rowsAtMost}
 use Rattle.selection.specs.Parents.{Parents}
 use Rattle.selection.specs.Classing.{parentClass, Classes}
 use Rattle.selection.specs.Classes.{sameParent, Prepared, Prepares}
-use Rattle.selection.proofs.StepLaws.{rows-all}
+use Rattle.selection.proofs.RegionLaws.{rows-all}
 use Rattle.selection.proofs.ClassLaws.{name-below, same-names, pair-below, same-pairs, object-classes, other-classes}
 
 -- of two types, one class says that fields of them are in one segment

@@ -19,15 +19,16 @@ use Rattle.tables.specs.Layout.{NONE}
 use Rattle.tables.specs.Columns.{field, selectionKind, selectionTarget, setSelections}
 use Rattle.tables.proofs.ColumnLaws.{below-own}
 use Rattle.selection.specs.declared.arena.Arena.{Arena}
+use Rattle.selection.specs.Regions.{areaOf}
 use Rattle.selection.specs.declared.arena.Walk as states
-use Rattle.selection.specs.declared.arena.List as places
-use Rattle.selection.specs.declared.expand.Expansion.{Expansion}
+use Rattle.lists.specs.declared.Span.{Span}
+use Rattle.expand.specs.declared.Expansion.{Expansion}
 use Rattle.selection.specs.declared.groups.Segment.{Segment}
 use Rattle.selection.specs.declared.groups.Part.{Part}
-use Rattle.selection.specs.ImageDocument.{documentBy, kindFrom, linkFrom, upFrom}
+use Rattle.expand.specs.ImageDocument.{documentBy, kindFrom, linkFrom, upFrom}
 use Rattle.selection.specs.Standing.{Stands}
 use Rattle.selection.specs.Places.{rowIn, onward}
-use Rattle.selection.specs.Expanding.{queueNext, queueWords}
+use Rattle.expand.specs.Expanding.{queueNext, queueWords}
 use Rattle.selection.specs.Grouping.{member, belongs, memberPlace, partRows, Proper}
 use Rattle.selection.specs.Following.{followed}
 use Rattle.selection.specs.Refining.{document, Site}
@@ -36,8 +37,8 @@ use Rattle.selection.proofs.PlaceLaws.{Found, found-here}
 use Rattle.selection.proofs.PartLaws.{belongs-is, member-found}
 use Rattle.selection.proofs.FollowLaws.{follows}
 use Rattle.selection.proofs.StandLaws.{row-in, grounded, threaded, site-queue, stands-queue}
-use Rattle.selection.proofs.StepLaws.{length-queue}
-use Rattle.selection.proofs.ExpandedLaws.{queue-next, queue-stores, queue-outside}
+use Rattle.expand.proofs.StepLaws.{length-queue}
+use Rattle.expand.proofs.ExpandedLaws.{queue-next, queue-stores, queue-outside}
 
 -- ---- the sets of a field
 
@@ -94,7 +95,7 @@ sets-none D = refl
 
 -- ---- the loop over a segment's fields
 
-pub record QueuedUpto (image : List ℕ) (arena : Arena) (s₀ s : List ℕ) (e : Expansion) (g : Segment) (from place : ℕ) (x : places.List) (l sets : List ℕ) : Type 0 where
+pub record QueuedUpto (image : List ℕ) (arena : Arena) (s₀ s : List ℕ) (e : Expansion) (g : Segment) (from place : ℕ) (x : Span) (l sets : List ℕ) : Type 0 where
   pub at : ℕ
   pub low : x .start ≤ at
   pub found : Found (member (document image) g) x l at place (rowIn s (arena .store) place)
@@ -107,13 +108,13 @@ pub record Queueing (image : List ℕ) (arena : Arena) (s₀ s : List ℕ) (e₀
   pub listed : e .listed ≡ e₀ .listed
   pub number : e .number ≡ e₀ .number
   pub long : length s ≡ length s₀
-  pub upto : (work op : ℕ) (isShape : Bool) (z : states.Walk) (x : places.List) (l sets : List ℕ) → x .end ≡ end → x .start ≤ from
+  pub upto : (work op : ℕ) (isShape : Bool) (z : states.Walk) (x : Span) (l sets : List ℕ) → x .end ≡ end → x .start ≤ from
       → (from < x .end → member (document image) g (rowIn s₀ (arena .store) from) ≡ true) → Proper (document image) isShape g → CanQueue image arena work op isShape s₀ z x l e₀ sets (filter (member (document image) g) (onward x l from)) → QueuedUpto image arena s₀ s e g from place x l sets
 
 stores-at : {s s′ : List ℕ} {at n n′ : ℕ} {ws : List ℕ} → s′ ≡ s → n′ ≡ n → Stores s at n ws → Stores s′ at n′ ws
 stores-at e f r = rw (e, f) r
 
-pub next-listed : (arena : Arena) (x : Expansion) → (queueNext arena x .listed ≡ x .listed) × (queueNext arena x .number ≡ x .number)
+pub next-listed : (arena : Arena) (x : Expansion) → (queueNext (areaOf arena) x .listed ≡ x .listed) × (queueNext (areaOf arena) x .number ≡ x .number)
 unfolding queueNext
 next-listed arena x = go (ltb (arena .queue + x .queued) (arena .lasts))
   where
@@ -138,7 +139,7 @@ module _ {image : List ℕ} {arena : Arena} {s₀ : List ℕ} {e₀ : Expansion}
     };
   }
 
-  pub queueing-done : {s : List ℕ} {e : Expansion} {place : ℕ} (x : places.List) → Queueing image arena s₀ s e₀ e g from end place → end ≤ place → x .end ≡ end
+  pub queueing-done : {s : List ℕ} {e : Expansion} {place : ℕ} (x : Span) → Queueing image arena s₀ s e₀ e g from end place → end ≤ place → x .end ≡ end
       → QueuesSegment image arena s₀ s e₀ e x g from
   queueing-done x q over is = record {
     listed = q .listed;
@@ -156,7 +157,7 @@ module _ {image : List ℕ} {arena : Arena} {s₀ : List ℕ} {e₀ : Expansion}
     unfolding fieldNext
     field-listed = rw next (go (hasSet image row))
       where
-        go : (b : Bool) → (cond b (queueNext arena e) e .listed ≡ e .listed) × (cond b (queueNext arena e) e .number ≡ e .number)
+        go : (b : Bool) → (cond b (queueNext (areaOf arena) e) e .listed ≡ e .listed) × (cond b (queueNext (areaOf arena) e) e .number ≡ e .number)
         go true = next-listed arena e
         go false = (refl, refl)
 
@@ -164,11 +165,11 @@ module _ {image : List ℕ} {arena : Arena} {s₀ : List ℕ} {e₀ : Expansion}
     unfolding fieldWords
     field-long = rw words (go (hasSet image row))
       where
-        go : (b : Bool) → length (cond b (queueWords arena e s (selectionTarget image row)) s) ≡ length s
-        go true = length-queue arena e s (selectionTarget image row)
+        go : (b : Bool) → length (cond b (queueWords (areaOf arena) e s (selectionTarget image row)) s) ≡ length s
+        go true = length-queue (areaOf arena) e s (selectionTarget image row)
         go false = refl
 
-    module _ (work op : ℕ) (isShape : Bool) (z : states.Walk) (x : places.List) (l sets : List ℕ) (is : x .end ≡ end) (low : x .start ≤ from)
+    module _ (work op : ℕ) (isShape : Bool) (z : states.Walk) (x : Span) (l sets : List ℕ) (is : x .end ≡ end) (low : x .start ≤ from)
         (begins : from < x .end → member (document image) g (rowIn s₀ (arena .store) from) ≡ true) (proper : Proper (document image) isShape g)
         (can : CanQueue image arena work op isShape s₀ z x l e₀ sets (filter (member (document image) g) (onward x l from))) where
       u : QueuedUpto image arena s₀ s e g from place x l sets
@@ -209,13 +210,13 @@ module _ {image : List ℕ} {arena : Arena} {s₀ : List ℕ} {e₀ : Expansion}
           let fits = can .fits in
           let room : arena .queue + e .queued < arena .lasts = omega arith in
           let inside : arena .lasts ≤ length s = omega (arith, site-now .room, site-now .regions .heads, site-now .regions .links, site-now .regions .store) in
-          let is-e : e′ .queued ≡ e .queued + 1 = rw (next, h, queue-next arena e s t room) in
-          let is-s : s′ ≡ queueWords arena e s t = rw (words, h) in
+          let is-e : e′ .queued ≡ e .queued + 1 = rw (next, h, queue-next (areaOf arena) e s t room) in
+          let is-s : s′ ≡ queueWords (areaOf arena) e s t = rw (words, h) in
           record {
             before = u .before ++ (t ∷ []);
-            queue = stores-at is-s is-e (queue-stores arena e s t room (u .queue) inside);
+            queue = stores-at is-s is-e (queue-stores (areaOf arena) e s t room (u .queue) inside);
             total = append-assoc (u .before) (t ∷ []) (setsBelow (document image) rest) ∙ whole;
-            frame = rw is-s (outside-wider (queue-outside arena e s t room) (arena .queue) (arena .lasts - arena .queue) (omega arith) (omega arith));
+            frame = rw is-s (outside-wider (queue-outside (areaOf arena) e s t room) (arena .queue) (arena .lasts - arena .queue) (omega arith) (omega arith));
           }
       added-by false h =
           let is-e : e′ ≡ e = rw (next, h) in
@@ -255,7 +256,7 @@ module _ {image : List ℕ} {arena : Arena} {s₀ : List ℕ} {e₀ : Expansion}
 -- ---- both segments of a part
 
 -- the rows of the store stay while sets are queued
-stays-at : {image : List ℕ} {arena : Arena} {work op : ℕ} {isShape : Bool} {s s′ : List ℕ} {z : states.Walk} {x : places.List} {l : List ℕ} {e : Expansion} {sets rows : List ℕ} (place : ℕ)
+stays-at : {image : List ℕ} {arena : Arena} {work op : ℕ} {isShape : Bool} {s s′ : List ℕ} {z : states.Walk} {x : Span} {l : List ℕ} {e : Expansion} {sets rows : List ℕ} (place : ℕ)
     → CanQueue image arena work op isShape s z x l e sets rows → Outside (arena .queue) (arena .lasts - arena .queue) s s′ → rowIn s′ (arena .store) place ≡ rowIn s (arena .store) place
 stays-at {arena = arena} place can o = let r = can .site .regions in o .above (arena .store + place) (omega (arith, r .lasts, r .heads, r .links, r .store))
 

@@ -2,7 +2,7 @@
 use mathlib.Core.Path.{_≡_, refl, sym, ap, _∙_}
 use mathlib.Core.Bool.{Bool, true, false, cond, false≢true}
 use mathlib.Core.List.{List}
-use Prim.Native.Nat.{ℕ, suc, _+_, _*_, _≤_, _<_}
+use Prim.Native.Nat.{ℕ, suc, _+_, _≤_}
 use native.Mathlib.Omega.{arith}
 use lib.Dec.{leb, eqb}
 use lib.ListN.{length}
@@ -13,13 +13,15 @@ use Rattle.merge_theory.specs.Document.{Cause, shape, name, arguments, numberOf
 use Rattle.merge_theory.specs.Steps.{entry, State, Result, finished, conflict, out, deep, Step, after, _then_, chargeIf, charge}
 use Rattle.merge_theory.specs.Steps as steps
 use Rattle.merge_theory.specs.Walk.{costOf, note, enter, meet}
+use Rattle.lists.specs.Part.{StoredAt}
 use Rattle.selection.specs.declared.arena.Arena.{Arena}
+use Rattle.selection.specs.Regions.{registryOf}
 use Rattle.selection.specs.declared.arena.Walk as states
-use Rattle.selection.specs.declared.arena.List as places
+use Rattle.lists.specs.declared.Span.{Span}
 use Rattle.selection.specs.declared.walk.Met.{Met}
-use Rattle.selection.specs.KnownLists.{AtHand, headAt, keptWords}
+use Rattle.known.specs.KnownLists.{slotAt, keptWords}
 use Rattle.selection.specs.Refining.{paidFor, Holds, Tells, charged, lengthOf, entered, metList, metWords, MeetsList, Site, Kept, Refines}
-use Rattle.selection.proofs.KnownLaws.{head-is, ToldBelow, keeps, known-more}
+use Rattle.known.proofs.KnownLaws.{Fits, known-more}
 
 pub some-kind : (c : Cause) → numberOf c ≡ 0 → ⊥
 some-kind shape e = omega arith
@@ -142,15 +144,15 @@ after-finished (deep y) = refl
 -- ---- a list that is met
 
 -- the three ways
-pub data MetCase (s s′ : List ℕ) (arena : Arena) (work : ℕ) (z : states.Walk) (x : places.List) (old : Bool) (r : Met) : Type 0 where
+pub data MetCase (s s′ : List ℕ) (arena : Arena) (work : ℕ) (z : states.Walk) (x : Span) (old : Bool) (r : Met) : Type 0 where
   again : old ≡ true → r ≡ record { walk = charged work 1 z; list = x; deeper = false } → s′ ≡ s → MetCase s s′ arena work z x old r
   refused : old ≡ false → (charged work (1 + lengthOf x) z .reply .kind ≡ 0 → ⊥) → r ≡ record { walk = charged work (1 + lengthOf x) z; list = x; deeper = false } → s′ ≡ s
       → MetCase s s′ arena work z x old r
   stored : old ≡ false → charged work (1 + lengthOf x) z .reply .kind ≡ 0
       → r ≡ record { walk = record { reply = charged work (1 + lengthOf x) z .reply; known = x .end; expansions = charged work (1 + lengthOf x) z .expansions }; list = x; deeper = true }
-      → s′ ≡ keptWords arena (headAt arena s x) (z .known) x s → MetCase s s′ arena work z x old r
+      → s′ ≡ keptWords (registryOf arena) (slotAt (registryOf arena) s x) (z .known) x s → MetCase s s′ arena work z x old r
 
-pub met-case : {s s′ : List ℕ} {arena : Arena} {work : ℕ} {z : states.Walk} {x : places.List} {r : Met} (m : MeetsList s s′ arena work z x r) → MetCase s s′ arena work z x (m .old) r
+pub met-case : {s s′ : List ℕ} {arena : Arena} {work : ℕ} {z : states.Walk} {x : Span} {r : Met} (m : MeetsList s s′ arena work z x r) → MetCase s s′ arena work z x (m .old) r
 unfolding metList metWords entered
 met-case {s} {s′} {arena} {work} {z} {x} {r} m = go (m .old) (m .result) (m .words)
   where
@@ -159,7 +161,7 @@ met-case {s} {s′} {arena} {work} {z} {x} {r} m = go (m .old) (m .result) (m .w
 
     by-kind : (b : Bool) → eqb (paid .reply .kind) 0 ≡ b
         → r ≡ cond b (record { walk = record { reply = paid .reply; known = x .end; expansions = paid .expansions }; list = x; deeper = true }) (record { walk = paid; list = x; deeper = false })
-        → s′ ≡ cond b (keptWords arena (headAt arena s x) (z .known) x s) s → MetCase s s′ arena work z x false r
+        → s′ ≡ cond b (keptWords (registryOf arena) (slotAt (registryOf arena) s x) (z .known) x s) s → MetCase s s′ arena work z x false r
     by-kind true e result words = stored refl (eqb-true _ _ e) result words
     by-kind false e result words = refused refl (eqb-false _ _ e) result words
 
@@ -167,14 +169,14 @@ met-case {s} {s′} {arena} {work} {z} {x} {r} m = go (m .old) (m .result) (m .w
     go true result words = again refl result words
     go false result words = by-kind (eqb (paid .reply .kind) 0) refl result words
 
-module _ {s s′ : List ℕ} {arena : Arena} {work : ℕ} {z : states.Walk} {x : places.List} {r : Met} (op : ℕ) (m : MeetsList s s′ arena work z x r)
-    (l : List ℕ) (list : AtHand s (arena .store) x l) where
+module _ {s s′ : List ℕ} {arena : Arena} {work : ℕ} {z : states.Walk} {x : Span} {r : Met} (op : ℕ) (m : MeetsList s s′ arena work z x r)
+    (l : List ℕ) (list : StoredAt s (arena .store) x l) where
   rows-are : lengthOf x ≡ length l
   rows-are = sym (stores-length (list .rows))
 
   module _ (y : State) (h : Holds s arena op z y) where
     old-is : m .old ≡ isKnown l (y .known)
-    old-is = m .decides .answer (y .known) l (h .known) list
+    old-is = m .finds .answer refl (z .known) (y .known) l (h .known) list
 
     -- nothing is deeper: the charge is all
     pub met-done : r .deeper ≡ false → (walked : Step) → Tells s′ arena op (r .walk) (meet work l walked (isKnown l (y .known)) y)
@@ -190,16 +192,14 @@ module _ {s s′ : List ℕ} {arena : Arena} {work : ℕ} {z : states.Walk} {x :
         go (stored old go-on result words) = absurd (false≢true (sym flat ∙ ap (λ (k : Met). k .deeper) result))
 
     -- a new list that is paid: it is known now, and its parts are walked
-    pub met-entered : r .deeper ≡ true → arena .heads + arena .names < arena .links → arena .links + 4 * suc (z .known) ≤ arena .store → x .start ≡ z .known + 1 → x .start ≤ x .end
+    pub met-entered : r .deeper ≡ true → Fits (registryOf arena) (suc (z .known)) → x .start ≡ z .known + 1 → x .start ≤ x .end
         → Holds s′ arena op (r .walk) (paidFor l y) × (y .used + suc (length l) ≤ work)
         × ((walked : Step) → meet work l walked (isKnown l (y .known)) y ≡ walked (paidFor l y))
-        × ToldBelow arena s′ (x .start)
     unfolding meet enter costOf note after
-    met-entered deeper low spread start ordered = go (met-case m)
+    met-entered deeper fits start ordered = go (met-case m)
       where
         go : MetCase s s′ arena work z x (m .old) r → Holds s′ arena op (r .walk) (paidFor l y) × (y .used + suc (length l) ≤ work)
             × ((walked : Step) → meet work l walked (isKnown l (y .known)) y ≡ walked (paidFor l y))
-            × ToldBelow arena s′ (x .start)
         go (again old result words) = absurd (false≢true (sym (ap (λ (k : Met). k .deeper) result) ∙ deeper))
         go (refused old stop result words) = absurd (false≢true (sym (ap (λ (k : Met). k .deeper) result) ∙ deeper))
         go (stored old go-on result words) =
@@ -208,6 +208,6 @@ module _ {s s′ : List ℕ} {arena : Arena} {work : ℕ} {z : states.Walk} {x :
             let size : y .used + (1 + n) ≡ y .used + suc (length l) = omega (arith, rows-are) in
             let cost : 1 + n ≡ 1 + length l = omega (arith, rows-are) in
             let holds : Holds s arena op (charged work (1 + n) z) (steps.charged (1 + n) y) = rw (paid .made) at (charge-tells s arena op work (1 + n) z y h) in
-            let known = known-more l low spread (head-is arena list) (omega arith) ordered (keeps arena (headAt arena s x) (z .known) x s) (h .known) list in
+            let known = known-more l fits (omega arith) ordered (h .known) list in
             let made : charge work (1 + length l) y ≡ finished (steps.charged (suc (length l)) y) = rw (← cost, paid .made, size) in
-            (rw (words, result, ← size) (record { known = known .0; reply = holds .reply }), omega (arith, paid .fits, rows-are), λ walked. rw (← old-is, old, made), rw words (known .1))
+            (rw (words, result, ← size) (record { known = known; reply = holds .reply }), omega (arith, paid .fits, rows-are), λ walked. rw (← old-is, old, made))

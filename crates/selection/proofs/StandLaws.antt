@@ -15,9 +15,9 @@ use Rattle.tables.specs.Image.{countAt}
 use Rattle.tables.specs.Columns.{objectType, typeKind, responseName}
 use Rattle.selection.specs.declared.arena.Arena.{Arena}
 use Rattle.selection.specs.declared.arena.Walk as states
-use Rattle.selection.specs.declared.arena.List as places
-use Rattle.selection.specs.ImageDocument.{documentBy}
-use Rattle.selection.specs.KnownLists.{AtHand}
+use Rattle.lists.specs.declared.Span.{Span}
+use Rattle.expand.specs.ImageDocument.{documentBy}
+use Rattle.lists.specs.Part.{StoredAt}
 use Rattle.selection.specs.Classes.{sameParent, Classed, Prepared}
 use Rattle.selection.specs.Regions.{Places}
 use Rattle.selection.specs.Linking.{classAt, nextAt, firstAt, Linked, Linkable, Links}
@@ -26,7 +26,7 @@ use Rattle.selection.specs.Places.{rowIn}
 use Rattle.selection.specs.Grouping.{segment, oneParent, abstractParent, hasObjectParent, belongs, nameAt, parentAt, nameSegment, pairSegment, Grounded}
 use Rattle.selection.specs.Following.{linkAt, Threaded}
 use Rattle.selection.specs.Refining.{document, Site, Rows, Kept}
-use Rattle.selection.proofs.ExpandedLaws.{stores-same}
+use Rattle.lists.proofs.Parts.{stores-same}
 use Rattle.selection.proofs.PlaceLaws.{row-is, seek-cong}
 use Rattle.selection.proofs.FollowLaws.{belongs-name, belongs-parent, belongs-others}
 use Rattle.selection.proofs.LinkLaws.{linked-frame}
@@ -50,8 +50,8 @@ pub prepared-kept : {image s s′ : List ℕ} → ((k : ℕ) → k < 3 * countAt
 prepared-kept same p = record { parents = λ r h. same r (omega arith) ∙ p .parents r h; classes = classed-kept same (p .classes) }
 
 -- there is a word for each key
-pub heads-low : {image : List ℕ} {arena : Arena} → Places image arena → arena .heads + arena .names < arena .links
-heads-low r = omega (arith, r .names, r .heads, r .links)
+pub heads-low : {image : List ℕ} {arena : Arena} → Places image arena → arena .heads + arena .names < arena .chain
+heads-low r = omega (arith, r .names, r .heads, r .chain)
 
 -- the words in front of the marks are those of parents and classes
 pub in-front : {image : List ℕ} {arena : Arena} → Places image arena → arena .marks ≡ 3 * countAt image selections
@@ -59,7 +59,7 @@ in-front r = omega (arith, r .names, r .pairs, r .marks)
 
 -- ---- both kinds of links
 
-module _ {arena : Arena} {s s₁ s′ : List ℕ} {x : places.List} (first : Links s s₁ (namesChain arena) x) (second : Links s₁ s′ (pairsChain arena) x) where
+module _ {arena : Arena} {s s₁ s′ : List ℕ} {x : Span} (first : Links s s₁ (namesChain arena) x) (second : Links s₁ s′ (pairsChain arena) x) where
   module _ (n : ℕ) (both : LinkableBoth arena n s x) where
     low-links : arena .links + 4 * x .end ≤ arena .store
     low-links = omega (arith, both .pairs .below, both .small)
@@ -119,7 +119,7 @@ module _ {arena : Arena} {s s₁ s′ : List ℕ} {x : places.List} (first : Lin
   }
 
 -- by names alone
-pub names-alone : {arena : Arena} {s s′ : List ℕ} {x : places.List} → Links s s′ (namesChain arena) x → (isShape : Bool) → isShape ≡ true → Stood arena isShape s s′ x
+pub names-alone : {arena : Arena} {s s′ : List ℕ} {x : Span} → Links s s′ (namesChain arena) x → (isShape : Bool) → isShape ≡ true → Stood arena isShape s s′ x
 names-alone {arena} {s} {s′} {x} first isShape is = record {
   long = first .long;
   names = λ n both. first .linked n (both .names);
@@ -154,10 +154,10 @@ pair-belongs image s store p row = go (hasObjectParent image s (rowIn s store p)
     go false = sym (belongs-others image s (nameAt image s store p) row)
 
 module _ {image : List ℕ} {arena : Arena} {work op : ℕ} {s : List ℕ} {z : states.Walk} (site : Site image arena work op s z) where
-  pub row-in : {x : places.List} {l : List ℕ} → AtHand s (arena .store) x l → (p : ℕ) → x .start ≤ p → p < x .end → rowIn s (arena .store) p ∈ l
+  pub row-in : {x : Span} {l : List ℕ} → StoredAt s (arena .store) x l → (p : ℕ) → x .start ≤ p → p < x .end → rowIn s (arena .store) p ∈ l
   row-in {x} {l} stands p low less = rw (row-is stands p low less) (getD-in l (p - x .start) (omega (arith, stores-length (stands .rows))))
 
-  pub grounded : {x : places.List} {l : List ℕ} → Rows image arena work op l → AtHand s (arena .store) x l → Grounded (document image) image s (arena .store) x l
+  pub grounded : {x : Span} {l : List ℕ} → Rows image arena work op l → StoredAt s (arena .store) x l → Grounded (document image) image s (arena .store) x l
   unfolding documentBy
   grounded rows stands = record {
     list = stands;
@@ -166,7 +166,7 @@ module _ {image : List ℕ} {arena : Arena} {work op : ℕ} {s : List ℕ} {z : 
     parents = λ p low less. site .parents _ (rows .inside _ (row-in stands p low less));
   }
 
-  module _ {isShape : Bool} {x : places.List} {l : List ℕ} (rows : Rows image arena work op l) (stands : Stands arena isShape s x l) where
+  module _ {isShape : Bool} {x : Span} {l : List ℕ} (rows : Rows image arena work op l) (stands : Stands arena isShape s x l) where
     row-below : (p : ℕ) → x .start ≤ p → p < x .end → rowIn s (arena .store) p < countAt image selections
     row-below p low less = rows .inside _ (row-in (stands .rows) p low less)
 
@@ -225,6 +225,7 @@ module _ {image : List ℕ} {arena : Arena} {work op : ℕ} {s : List ℕ} {z : 
       record {
         good = site .good;
         regions = site .regions;
+        chained = site .chained;
         spread = site .spread;
         sound = site .sound;
         parents = λ k h. o .below k (omega (arith, r .names, r .pairs, r .marks, r .queue)) ∙ site .parents k h;
@@ -234,7 +235,7 @@ module _ {image : List ℕ} {arena : Arena} {work op : ℕ} {s : List ℕ} {z : 
         within = site .within;
       }
 
-  pub stands-queue : {isShape : Bool} {s′ : List ℕ} {x : places.List} {l : List ℕ} → Outside (arena .queue) (arena .lasts - arena .queue) s s′ → Rows image arena work op l → x .start ≤ x .end
+  pub stands-queue : {isShape : Bool} {s′ : List ℕ} {x : Span} {l : List ℕ} → Outside (arena .queue) (arena .lasts - arena .queue) s s′ → Rows image arena work op l → x .start ≤ x .end
       → Stands arena isShape s x l → Stands arena isShape s′ x l
   stands-queue o rows ordered stands =
       let r = site .regions in
@@ -242,7 +243,7 @@ module _ {image : List ℕ} {arena : Arena} {work op : ℕ} {s : List ℕ} {z : 
       (λ k h less. o .above k (omega (arith, r .lasts, r .heads, r .links, r .store)))
 
   -- a list that is known stays
-  pub stands-kept : {isShape : Bool} {s′ : List ℕ} {z′ : states.Walk} {x : places.List} {l : List ℕ} → Kept image arena work op s s′ z z′ → Rows image arena work op l → Stands arena isShape s x l → x .start ≤ x .end → x .end ≤ z .known
+  pub stands-kept : {isShape : Bool} {s′ : List ℕ} {z′ : states.Walk} {x : Span} {l : List ℕ} → Kept image arena work op s s′ z z′ → Rows image arena work op l → Stands arena isShape s x l → x .start ≤ x .end → x .end ≤ z .known
       → Stands arena isShape s′ x l
   stands-kept kept rows stands ordered stored =
       stands-same rows stands ordered (kept .long) (kept .parents) (λ k h less. kept .links k h (omega arith)) (λ k h less. kept .known k h (omega arith))

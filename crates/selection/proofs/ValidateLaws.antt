@@ -15,12 +15,12 @@ use Rattle.tables.specs.Layout.{fragments, selections}
 use Rattle.tables.specs.Image.{countAt}
 use Rattle.selection.specs.declared.arena.Arena.{Arena}
 use Rattle.selection.specs.declared.arena.Walk as states
-use Rattle.selection.specs.ImageDocument.{documentBy, limitOfLinks}
+use Rattle.expand.specs.ImageDocument.{documentBy, limitOfLinks}
 use Rattle.selection.specs.Regions.{arenaOf, Places}
 use Rattle.selection.specs.Refining.{document, passOf, replyOf, mostWork, Holds, Tells, Ample, Site}
 use Rattle.selection.specs.Validating.{Within, Runs, Checkable, Validates}
-use Rattle.selection.proofs.ClearLaws.{Cleared, cleared}
-use Rattle.selection.proofs.StepLaws.{places, links-fit}
+use Rattle.lists.proofs.ClearLaws.{Cleared, cleared}
+use Rattle.selection.proofs.RegionLaws.{places, chain-fits, links-fit}
 use Rattle.selection.proofs.StandLaws.{classed-kept, in-front}
 use Rattle.selection.proofs.RefineLaws.{tells-go, tells-stop}
 
@@ -60,7 +60,7 @@ module _ {image : List ℕ} {arena : Arena} {work budget operation used n : ℕ}
     room = rw (is-arena, all-work) (can .room)
 
     marks-clear : Cleared (arena .marks) n s s₁
-    marks-clear = cleared is-clear (omega (arith, is-count, room, regions .queue, regions .lasts, regions .heads, regions .links, regions .store))
+    marks-clear = cleared is-clear (omega (arith, is-count, room, regions .queue, regions .lasts, regions .heads, regions .chain, regions .links, regions .store))
 
     outside : Outside (arena .marks) n s s₁
     outside = marks-clear .outside
@@ -70,6 +70,7 @@ module _ {image : List ℕ} {arena : Arena} {work budget operation used n : ℕ}
     site = record {
       good = can .good;
       regions = regions;
+      chained = omega (arith, chain-fits budget (can .good) is-arena (omega (arith, is-budget)));
       spread = omega (arith, links-fit budget (can .good) is-arena (omega (arith, is-budget)));
       sound = can .sound;
       parents = λ r h. outside .below r (omega (arith, in-front regions)) ∙ can .prepared .parents r h;
@@ -85,7 +86,7 @@ module _ {image : List ℕ} {arena : Arena} {work budget operation used n : ℕ}
         record {
           long = f .long ∙ long₁;
           below = λ k h. f .below k h ∙ outside .below k h;
-          beyond = λ k h. f .beyond k h ∙ outside .above k (omega (arith, is-count, regions .queue, regions .lasts, regions .heads, regions .links, regions .store));
+          beyond = λ k h. f .beyond k h ∙ outside .above k (omega (arith, is-count, regions .queue, regions .lasts, regions .heads, regions .chain, regions .links, regions .store));
         }
 
     shaped : Tells s₂ arena operation z₁ (walk (document image) (passOf image true) stop operation budget (suc limitOfLinks) (operation ∷ []) (begin used))

@@ -14,14 +14,15 @@ use Rattle.merge_theory.specs.Walk.{against, compareFirst, setsBelow}
 use Rattle.tables.specs.Layout.{NONE}
 use Rattle.tables.specs.Columns.{selectionTarget, isEmptySet}
 use Rattle.selection.specs.declared.arena.Arena.{Arena}
+use Rattle.selection.specs.Regions.{areaOf}
 use Rattle.selection.specs.declared.arena.Walk as states
-use Rattle.selection.specs.declared.arena.List as places
-use Rattle.selection.specs.declared.expand.Expansion.{Expansion}
+use Rattle.lists.specs.declared.Span.{Span}
+use Rattle.expand.specs.declared.Expansion.{Expansion}
 use Rattle.selection.specs.declared.groups.Segment.{Segment}
 use Rattle.selection.specs.declared.groups.Part.{Part}
 use Rattle.selection.specs.Standing.{Stands}
 use Rattle.selection.specs.Places.{rowIn, onward}
-use Rattle.selection.specs.Expanding.{queueNext, queueWords}
+use Rattle.expand.specs.Expanding.{queueNext, queueWords}
 use Rattle.selection.specs.Grouping.{member, Proper, Grounded, PartAt}
 use Rattle.selection.specs.Following.{Threaded, Follows}
 use Rattle.selection.specs.Refining.{document, passOf, Holds, Tells, Site, Rows}
@@ -40,7 +41,7 @@ conflicted kind a b z = record {
 }
 
 -- a field against those of a segment from one of its places on
-pub record ComparesSegment (image s : List ℕ) (arena : Arena) (z : states.Walk) (x : places.List) (g : Segment) (isShape : Bool) (a from : ℕ) (r : states.Walk) : Type 0 where
+pub record ComparesSegment (image s : List ℕ) (arena : Arena) (z : states.Walk) (x : Span) (g : Segment) (isShape : Bool) (a from : ℕ) (r : states.Walk) : Type 0 where
   pub same : r .reply .kind ≡ 0 → r ≡ z
   pub known : r .known ≡ z .known
   pub operation : r .reply .operation ≡ z .reply .operation
@@ -64,10 +65,10 @@ unfoldable pub hasSet : List ℕ → ℕ → Bool
 hasSet image row = not (eqb (selectionTarget image row) NONE) && not (isEmptySet image (selectionTarget image row))
 
 unfoldable pub fieldNext : List ℕ → Arena → Expansion → ℕ → Expansion
-fieldNext image arena x row = cond (hasSet image row) (queueNext arena x) x
+fieldNext image arena x row = cond (hasSet image row) (queueNext (areaOf arena) x) x
 
 unfoldable pub fieldWords : List ℕ → Arena → Expansion → List ℕ → ℕ → List ℕ
-fieldWords image arena x s row = cond (hasSet image row) (queueWords arena x s (selectionTarget image row)) s
+fieldWords image arena x s row = cond (hasSet image row) (queueWords (areaOf arena) x s (selectionTarget image row)) s
 
 -- r says that a part is one field without a set
 pub record Bare (image s : List ℕ) (arena : Arena) (part : Part) (r : Bool) : Type 0 where
@@ -81,7 +82,7 @@ pub record Queues (image : List ℕ) (arena : Arena) (s s′ : List ℕ) (x x′
   pub frame : Outside (arena .queue) (arena .lasts - arena .queue) s s′
 
 -- where the list stands in the words, with room for the sets
-pub record CanQueue (image : List ℕ) (arena : Arena) (work op : ℕ) (isShape : Bool) (s : List ℕ) (z : states.Walk) (x : places.List) (l : List ℕ) (e : Expansion) (sets rows : List ℕ) : Type 0 where
+pub record CanQueue (image : List ℕ) (arena : Arena) (work op : ℕ) (isShape : Bool) (s : List ℕ) (z : states.Walk) (x : Span) (l : List ℕ) (e : Expansion) (sets rows : List ℕ) : Type 0 where
   pub site : Site image arena work op s z
   pub stands : Stands arena isShape s x l
   pub ordered : x .start ≤ x .end
@@ -89,7 +90,7 @@ pub record CanQueue (image : List ℕ) (arena : Arena) (work op : ℕ) (isShape 
   pub queue : Stores s (arena .queue) (e .queued) sets
   pub fits : arena .queue + length (sets ++ setsBelow (document image) rows) ≤ arena .lasts
 
-pub record QueuesSegment (image : List ℕ) (arena : Arena) (s s′ : List ℕ) (e e′ : Expansion) (x : places.List) (g : Segment) (from : ℕ) : Type 0 where
+pub record QueuesSegment (image : List ℕ) (arena : Arena) (s s′ : List ℕ) (e e′ : Expansion) (x : Span) (g : Segment) (from : ℕ) : Type 0 where
   pub listed : e′ .listed ≡ e .listed
   pub number : e′ .number ≡ e .number
   pub long : length s′ ≡ length s

@@ -9,11 +9,11 @@ use lib.ListN.{getD}
 use Rattle.merge_theory.specs.Lists.{filter}
 use Rattle.merge_theory.specs.Document.{Document}
 use Rattle.tables.specs.Columns.{objectType, typeKind, responseName}
-use Rattle.selection.specs.declared.arena.List as places
+use Rattle.lists.specs.declared.Span.{Span}
 use Rattle.selection.specs.declared.groups.Segment.{Segment}
 use Rattle.selection.specs.declared.groups.Cursor.{Cursor}
 use Rattle.selection.specs.declared.groups.Part.{Part}
-use Rattle.selection.specs.KnownLists.{AtHand}
+use Rattle.lists.specs.Part.{StoredAt}
 use Rattle.selection.specs.Places.{seek, rowIn, onward}
 
 -- kinds of segments: all fields of a name, those of one parent, those whose parent is no object
@@ -63,7 +63,7 @@ module _ (image s : List ℕ) where
     pairSegment place =
         cond (hasObjectParent (rowIn s store place)) (segment (nameAt place) oneParent (parentAt place)) (segment (nameAt place) abstractParent 0)
 
-    module _ (x : places.List) where
+    module _ (x : Span) where
       -- no earlier field of the list has this one's response name
       unfoldable pub isFirstOfName : ℕ → Bool
       isFirstOfName place = eqb (memberPlace (nameSegment place) (x .start) place) place
@@ -124,8 +124,8 @@ unfoldable pub partRows : Document → List ℕ → Part → List ℕ
 partRows D l part = filter (member D (part .front)) (onward (part .list) l (part .first)) ++ filter (member D (part .back)) (onward (part .list) l (part .next))
 
 -- the list stands in the words, and so do the parents of its rows
-pub record Grounded (D : Document) (image s : List ℕ) (store : ℕ) (x : places.List) (l : List ℕ) : Type 0 where
-  pub list : AtHand s store x l
+pub record Grounded (D : Document) (image s : List ℕ) (store : ℕ) (x : Span) (l : List ℕ) : Type 0 where
+  pub list : StoredAt s store x l
   pub names : (f : ℕ) → responseName image f ≡ D .nameOf f
   pub objects : (t : ℕ) → eqb (typeKind image t) objectType ≡ D .isObject t
   pub parents : (p : ℕ) → x .start ≤ p → p < x .end → getD s (rowIn s store p) 0 ≡ D .parentOf (rowIn s store p)

@@ -1,10 +1,6 @@
 -- What the contracts cite.
-pub mod ImageDocument
 pub mod Regions
-pub mod Expanding
-pub mod ExpandSteps
 pub mod Parents
-pub mod KnownLists
 pub mod Places
 pub mod Classes
 pub mod Linking

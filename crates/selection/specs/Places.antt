@@ -6,7 +6,7 @@ use Prim.Native.Nat.{ℕ, _+_, _-_}
 use lib.ListN.{take, drop, getD}
 use Rattle.lists.specs.Every.{position}
 use Rattle.merge_theory.specs.Lists.{keep, filter, isIn}
-use Rattle.selection.specs.declared.arena.List as places
+use Rattle.lists.specs.declared.Span.{Span}
 
 -- the first place from `from` on, and below `end`, that passes; where none does, `end`, or `from` if that is past it
 unfoldable pub seek : (ℕ → Bool) → ℕ → ℕ → ℕ
@@ -17,10 +17,10 @@ abbrev pub rowIn : List ℕ → ℕ → ℕ → ℕ
 rowIn s store place = getD s (store + place) 0
 
 -- the rows before a place, and from it on
-unfoldable pub before : places.List → List ℕ → ℕ → List ℕ
+unfoldable pub before : Span → List ℕ → ℕ → List ℕ
 before x l place = take (place - x .start) l
 
-unfoldable pub onward : places.List → List ℕ → ℕ → List ℕ
+unfoldable pub onward : Span → List ℕ → ℕ → List ℕ
 onward x l place = drop (place - x .start) l
 
 -- among the rows that pass, no earlier one has this row's key
@@ -33,5 +33,5 @@ freshKeys key among seen [] = []
 freshKeys key among seen (f ∷ rows) = keep (appears key among seen f) (key f) (freshKeys key among (seen ++ f ∷ []) rows)
 
 -- those that first appear from a place on
-abbrev pub freshFrom : (ℕ → ℕ) → (ℕ → Bool) → places.List → List ℕ → ℕ → List ℕ
+abbrev pub freshFrom : (ℕ → ℕ) → (ℕ → Bool) → Span → List ℕ → ℕ → List ℕ
 freshFrom key among x l place = freshKeys key among (before x l place) (onward x l place)

@@ -27,15 +27,15 @@ use Rattle.values.specs.Shape.{sameShape}
 use Rattle.selection.specs.declared.arena.Arena.{Arena}
 use Rattle.selection.specs.declared.arena.Reply.{Reply}
 use Rattle.selection.specs.declared.arena.Walk as states
-use Rattle.selection.specs.declared.arena.List as places
-use Rattle.selection.specs.declared.expand.Expansion.{Expansion}
+use Rattle.lists.specs.declared.Span.{Span}
+use Rattle.expand.specs.declared.Expansion.{Expansion}
 use Rattle.selection.specs.declared.walk.Met.{Met}
 use Rattle.selection.specs.declared.groups.Part.{Part}
-use Rattle.selection.specs.ImageDocument.{documentBy}
+use Rattle.expand.specs.ImageDocument.{documentBy}
 pub use Rattle.selection.specs.Regions.{mostWork}
-use Rattle.selection.specs.Regions.{Places}
-use Rattle.selection.specs.Expanding.{MarksBelow, Once, StartSet}
-use Rattle.selection.specs.KnownLists.{Known, Decides, headAt, keptWords}
+use Rattle.selection.specs.Regions.{Places, areaOf, registryOf}
+use Rattle.expand.specs.Expanding.{MarksBelow, Once, StartSet}
+use Rattle.known.specs.KnownLists.{Known, Finds, slotAt, keptWords}
 use Rattle.selection.specs.Classes.{Classed}
 use Rattle.selection.specs.Standing.{Stands}
 use Rattle.selection.specs.Grouping.{PartAt}
@@ -57,7 +57,7 @@ replyOf op (out y) = record { kind = 17; operation = op; a = 0; b = 0; used = y 
 replyOf op (deep y) = record { kind = 17; operation = op; a = 0; b = 0; used = y .used }
 
 pub record Holds (s : List ℕ) (arena : Arena) (op : ℕ) (z : states.Walk) (y : State) : Type 0 where
-  pub known : Known arena s (z .known) (y .known)
+  pub known : Known (registryOf arena) s (z .known) (y .known)
   pub reply : z .reply ≡ replyOf op (finished y)
 
 abbrev pub Tells : List ℕ → Arena → ℕ → states.Walk → Result → Type 0
@@ -86,27 +86,27 @@ charged work cost z =
       expansions = z .expansions;
     })
 
-abbrev pub lengthOf : places.List → ℕ
+abbrev pub lengthOf : Span → ℕ
 lengthOf x = x .end - x .start
 
 -- a list that is not known, paid or not
-unfoldable pub entered : places.List → states.Walk → Met
+unfoldable pub entered : Span → states.Walk → Met
 entered x paid =
     cond (eqb (paid .reply .kind) 0)
     (record { walk = record { reply = paid .reply; known = x .end; expansions = paid .expansions }; list = x; deeper = true })
     (record { walk = paid; list = x; deeper = false })
 
-unfoldable pub metList : ℕ → states.Walk → places.List → Bool → Met
+unfoldable pub metList : ℕ → states.Walk → Span → Bool → Met
 metList work z x old =
     cond old (record { walk = charged work 1 z; list = x; deeper = false }) (entered x (charged work (1 + lengthOf x) z))
 
-unfoldable pub metWords : Arena → ℕ → states.Walk → places.List → Bool → List ℕ → List ℕ
+unfoldable pub metWords : Arena → ℕ → states.Walk → Span → Bool → List ℕ → List ℕ
 metWords arena work z x old s =
-    cond old s (cond (eqb (charged work (1 + lengthOf x) z .reply .kind) 0) (keptWords arena (headAt arena s x) (z .known) x s) s)
+    cond old s (cond (eqb (charged work (1 + lengthOf x) z .reply .kind) 0) (keptWords (registryOf arena) (slotAt (registryOf arena) s x) (z .known) x s) s)
 
-pub record MeetsList (s s′ : List ℕ) (arena : Arena) (work : ℕ) (z : states.Walk) (x : places.List) (r : Met) : Type 0 where
+pub record MeetsList (s s′ : List ℕ) (arena : Arena) (work : ℕ) (z : states.Walk) (x : Span) (r : Met) : Type 0 where
   pub old : Bool
-  pub decides : Decides arena s (z .known) x old
+  pub finds : Finds (registryOf arena) s (slotAt (registryOf arena) s x) x old
   pub result : r ≡ metList work z x old
   pub words : s′ ≡ metWords arena work z x old s
 
@@ -136,12 +136,13 @@ module _ (image : List ℕ) (arena : Arena) (work op : ℕ) where
   pub record Site (s : List ℕ) (z : states.Walk) : Type 0 where
     pub good : Good image
     pub regions : Places image arena
+    pub chained : arena .chain + (work + 1 + countAt image selections) ≤ arena .links
     pub spread : arena .links + 4 * (work + 1 + countAt image selections) ≤ arena .store
     pub sound : Sound (document image) Hand
     pub parents : (r : ℕ) → r < countAt image selections → getD s r 0 ≡ document image .parentOf r
     pub classes : Classed image s
     pub room : arena .store + work + 1 + countAt image selections ≤ length s
-    pub marks : MarksBelow image arena s (z .expansions + 1)
+    pub marks : MarksBelow image (areaOf arena) s (z .expansions + 1)
     pub within : z .reply .used ≤ work
 
   pub record Rows (l : List ℕ) : Type 0 where
@@ -220,7 +221,7 @@ pub record MeetsPart (image : List ℕ) (arena : Arena) (work : ℕ) (s s′ : L
       → Meets image arena work (z .reply .operation) isShape (λ levels. onePart image arena work (z .reply .operation) (passOf image isShape) levels rows) s s′ z m
 
 -- the walk of a list
-pub record WalksList (image : List ℕ) (arena : Arena) (work : ℕ) (s s′ : List ℕ) (z : states.Walk) (x : places.List) (isShape : Bool) (levels : ℕ) (z′ : states.Walk) : Type 0 where
+pub record WalksList (image : List ℕ) (arena : Arena) (work : ℕ) (s s′ : List ℕ) (z : states.Walk) (x : Span) (isShape : Bool) (levels : ℕ) (z′ : states.Walk) : Type 0 where
   pub long : length s′ ≡ length s
   pub operation : z′ .reply .operation ≡ z .reply .operation
   pub ample : z′ .reply .kind ≡ 0 → Ample work 0 z′

@@ -15,7 +15,7 @@ use Rattle.selection.specs.declared.arena.Arena.{Arena}
 use Rattle.selection.specs.declared.arena.Reply.{Reply}
 use Rattle.selection.specs.declared.arena.Walk as states
 use Rattle.selection.specs.declared.walk.Met.{Met}
-use Rattle.selection.specs.ImageDocument.{limitOfLinks}
+use Rattle.expand.specs.ImageDocument.{limitOfLinks}
 use Rattle.selection.specs.Regions.{arenaOf}
 use Rattle.selection.specs.Classes.{Prepared}
 use Rattle.selection.specs.Refining.{document, passOf, replyOf, mostWork, Tells, Ample, Site, Meets}

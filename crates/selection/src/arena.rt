@@ -1,4 +1,6 @@
 // The regions of the words that the walk is lent, and the walk's state.
+use expand::Area;
+use known::Registry;
 use lists::least;
 use tables::FRAGMENTS;
 use tables::SELECTIONS;
@@ -8,14 +10,14 @@ use tables::most_rows;
 use tables::word;
 ghost use mathlib.Core.Path.{_≡_};
 ghost use Prim.Native.Nat.{_+_, _*_, _≤_};
-ghost use Rattle.selection.specs.Regions.{rowsAtMost, arenaOf};
+ghost use Rattle.selection.specs.Regions.{rowsAtMost, arenaOf, areaOf, registryOf};
 
 // No budget is larger.
 pub const MOST_WORK: u32 = 1000000;
 
 // Where each region begins. The parent type of each selection's set stands from word 0 on; then, for each selection, the class of
 // its name, and that of its name and parent; the mark of each fragment; the queue of sets; the last place of each class; the last
-// known list of each key; four words of links for each place of the store; and the store of lists.
+// known list of each key; for each place of the store the known list before, then four words of links; and the store of lists.
 pub struct Arena {
     pub names: u32,
     pub pairs: u32,
@@ -23,6 +25,7 @@ pub struct Arena {
     pub queue: u32,
     pub lasts: u32,
     pub heads: u32,
+    pub chain: u32,
     pub links: u32,
     pub store: u32,
 }
@@ -40,12 +43,6 @@ pub struct Walk {
     pub reply: Reply,
     pub known: u32,
     pub expansions: u32,
-}
-
-// The fields of a list: places in the store, from `start` up to `end`.
-pub struct List {
-    pub start: u32,
-    pub end: u32,
 }
 
 // The rows of a table, but no more than it may have.
@@ -66,8 +63,9 @@ pub fn arena_of(image: &[u32], work: u32) -> Arena
     let queue = marks + rows_at_most(image, FRAGMENTS);
     let lasts = queue + rows_at_most(image, SETS);
     let heads = lasts + rows;
-    let links = heads + rows + 1;
+    let chain = heads + rows + 1;
     let room = least(work, MOST_WORK) + 1 + rows;
+    let links = chain + room;
     let store = links + 4 * room;
     Arena {
         names: rows,
@@ -76,16 +74,33 @@ pub fn arena_of(image: &[u32], work: u32) -> Arena
         queue,
         lasts,
         heads,
+        chain,
         links,
         store,
     }
 }
 
-// Where a word of a region stands: a sum of two words, which fits whatever they are.
-pub fn in_region(start: u32, i: u32) -> usize
-    ensures { λ r. ⌜ r ≡ start + i ⌝ }
+// The regions of an expansion, and those of the known lists.
+pub(crate) fn area_of(arena: Arena) -> Area
+    ensures { λ r. ⌜ r ≡ areaOf arena ⌝ }
 {
-    (start as usize) + (i as usize)
+    Area {
+        marks: arena.marks,
+        queue: arena.queue,
+        end: arena.lasts,
+        store: arena.store,
+    }
+}
+
+pub(crate) fn registry_of(arena: Arena) -> Registry
+    ensures { λ r. ⌜ r ≡ registryOf arena ⌝ }
+{
+    Registry {
+        heads: arena.heads,
+        keys: arena.names,
+        chain: arena.chain,
+        store: arena.store,
+    }
 }
 
 // Where a word of a place's links stands.

@@ -1,10 +1,10 @@
 // Classes of selections: by response name, and by name and parent. A class is told by its first row. Total; what is written
 // stands where there is room: for n rows, n words each for parents, names and pairs, and then the 3 × n of an index.
-use crate::arena::in_region;
 use crate::arena::rows_at_most;
 use index::Index;
 use index::build_firsts;
 use lists::get;
+use lists::in_region;
 use lists::least;
 use lists::put;
 use tables::SELECTIONS;

@@ -2,10 +2,10 @@
 // first field. They are read from the links between the list's places. Every function is total, whatever the words are; what it
 // finds is said of a list that is linked.
 use crate::arena::Arena;
-use crate::arena::List;
 use crate::arena::in_links;
-use crate::arena::in_region;
+use lists::Span;
 use lists::get;
+use lists::in_region;
 use tables::columns::OBJECT;
 use tables::columns::response_name;
 use tables::columns::type_kind;
@@ -40,7 +40,7 @@ const FIRST_OF_PARENT: u32 = 3;
 
 // What is compared, and whose sets are merged: the fields of a segment from a first one on, then those of another.
 pub struct Part {
-    pub list: List,
+    pub list: Span,
     pub first: u32,
     pub front: Segment,
     pub next: u32,
@@ -99,7 +99,7 @@ pub fn follow(s: &[u32], arena: Arena, kind: u32, place: u32, end: u32) -> u32
 }
 
 // The place of the first group from a place on.
-pub fn find_group(s: &[u32], arena: Arena, list: List, from: u32) -> u32
+pub fn find_group(s: &[u32], arena: Arena, list: Span, from: u32) -> u32
     ensures { λ r. ⌜ r ≡ groupFound (now (s .entry)) arena from (list .end) ⌝ }
 {
     let end = list.end;
@@ -124,7 +124,7 @@ fn opens_subgroup(image: &[u32], s: &[u32], arena: Arena, place: u32) -> bool
 }
 
 // The place of the first subgroup of an object parent in a group, from a place of the group on.
-fn find_subgroup(image: &[u32], s: &[u32], arena: Arena, list: List, from: u32) -> u32
+fn find_subgroup(image: &[u32], s: &[u32], arena: Arena, list: Span, from: u32) -> u32
     ensures { λ r. ⌜ FindsSubgroup (now (image .entry)) (now (s .entry)) arena list from r ⌝ }
 {
     let end = list.end;
@@ -139,7 +139,7 @@ fn find_subgroup(image: &[u32], s: &[u32], arena: Arena, list: List, from: u32) 
 }
 
 // The place of the first field of a group whose parent is no object.
-fn find_others(image: &[u32], s: &[u32], arena: Arena, list: List, group: u32) -> u32
+fn find_others(image: &[u32], s: &[u32], arena: Arena, list: Span, group: u32) -> u32
     ensures { λ r. ⌜ FindsOthers (now (image .entry)) (now (s .entry)) arena list group r ⌝ }
 {
     let end = list.end;
@@ -155,7 +155,7 @@ fn find_others(image: &[u32], s: &[u32], arena: Arena, list: List, group: u32) -
 }
 
 // A group's first subgroup: that of its first object parent, or all of it where there is none.
-pub fn first_subgroup(image: &[u32], s: &[u32], arena: Arena, list: List, group: u32) -> Cursor
+pub fn first_subgroup(image: &[u32], s: &[u32], arena: Arena, list: Span, group: u32) -> Cursor
     ensures { λ r. ⌜ FirstSubgroup (now (image .entry)) (now (s .entry)) arena list group r ⌝ }
 {
     let others = find_others(image, s, arena, list, group);
@@ -175,7 +175,7 @@ pub fn first_subgroup(image: &[u32], s: &[u32], arena: Arena, list: List, group:
 }
 
 // The place of the next subgroup of the same group; the list's end where there is none.
-fn later_subgroup(image: &[u32], s: &[u32], arena: Arena, list: List, cursor: Cursor) -> u32
+fn later_subgroup(image: &[u32], s: &[u32], arena: Arena, list: Span, cursor: Cursor) -> u32
     ensures { λ r. ⌜ LaterSubgroup (now (image .entry)) (now (s .entry)) arena list cursor r ⌝ }
 {
     if has_object_parent(image, s, row_at(s, arena, cursor.first)) {
@@ -190,7 +190,7 @@ pub(crate) fn next_subgroup(
     image: &[u32],
     s: &[u32],
     arena: Arena,
-    list: List,
+    list: Span,
     cursor: Cursor,
 ) -> Cursor
     requires { ⌜ cursor .group < list .end ⌝ }
@@ -210,7 +210,7 @@ pub(crate) fn next_subgroup(
 }
 
 // A name group as a part: all fields of its name, from the first one on.
-pub fn group_part(image: &[u32], s: &[u32], arena: Arena, list: List, group: u32) -> Part
+pub fn group_part(image: &[u32], s: &[u32], arena: Arena, list: Span, group: u32) -> Part
     ensures { λ r. ⌜ r ≡ groupPart (now (image .entry)) (now (s .entry)) (arena .store) list group ⌝ }
 {
     let name = response_name(image, row_at(s, arena, group));
@@ -230,7 +230,7 @@ pub fn group_part(image: &[u32], s: &[u32], arena: Arena, list: List, group: u32
 }
 
 // A subgroup as a part: the fields of its object parent, then those of interfaces and unions; or these alone.
-pub fn subgroup_part(image: &[u32], s: &[u32], arena: Arena, list: List, cursor: Cursor) -> Part
+pub fn subgroup_part(image: &[u32], s: &[u32], arena: Arena, list: Span, cursor: Cursor) -> Part
     ensures { λ r. ⌜ r ≡ subgroupPart (now (image .entry)) (now (s .entry)) (arena .store) list cursor ⌝ }
 {
     let name = response_name(image, row_at(s, arena, cursor.group));

@@ -1,8 +1,8 @@
 // Links between the places of a list: from each place to the next one of its class, and to the first. Every function is total;
 // what the links are stands under `Linkable`. What stands among the last places before does not matter.
-use crate::arena::List;
-use crate::arena::in_region;
+use lists::Span;
 use lists::get;
+use lists::in_region;
 use lists::put;
 ghost use mathlib.Core.Path.{_≡_};
 ghost use Prim.Native.Nat.{_+_, _*_};
@@ -35,7 +35,7 @@ pub fn links_at(chain: Chain, place: u32) -> usize
 }
 
 // Whether `before` is a place of the list, before another one, and has that class.
-fn is_earlier(s: &[u32], chain: Chain, list: List, before: u32, place: u32, class: u32) -> bool
+fn is_earlier(s: &[u32], chain: Chain, list: Span, before: u32, place: u32, class: u32) -> bool
     ensures { λ r. ⌜ r ≡ isEarlier (now (s .entry)) chain list before place class ⌝ }
 {
     if before < list.start {
@@ -48,7 +48,7 @@ fn is_earlier(s: &[u32], chain: Chain, list: List, before: u32, place: u32, clas
 }
 
 // A place is the last of its class so far: it leads to the list's end.
-fn end_links(s: &mut [u32], chain: Chain, list: List, place: u32, class: u32, first: u32)
+fn end_links(s: &mut [u32], chain: Chain, list: Span, place: u32, class: u32, first: u32)
     ensures { λ _. ⌜ now (s .exit) ≡ endWords (now (s .entry)) chain list place class first ⌝ }
 {
     let at = links_at(chain, place);
@@ -58,7 +58,7 @@ fn end_links(s: &mut [u32], chain: Chain, list: List, place: u32, class: u32, fi
 }
 
 // A place is linked to the last one of its class, where there is one.
-fn link_place(s: &mut [u32], chain: Chain, list: List, place: u32)
+fn link_place(s: &mut [u32], chain: Chain, list: Span, place: u32)
     ensures { λ _. ⌜ now (s .exit) ≡ linkWords (now (s .entry)) chain list place ⌝ }
 {
     let class = class_at(&s[..], chain, place);
@@ -74,7 +74,7 @@ fn link_place(s: &mut [u32], chain: Chain, list: List, place: u32)
 }
 
 // The places of a list are linked, in one pass.
-pub fn link(s: &mut [u32], chain: Chain, list: List)
+pub fn link(s: &mut [u32], chain: Chain, list: Span)
     ensures { λ _. ⌜ Links (now (s .entry)) (now (s .exit)) chain list ⌝ }
 {
     let end = list.end;

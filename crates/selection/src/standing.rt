@@ -1,8 +1,8 @@
 // A list that is met stands in the store with the links between its places: by name, and by name and parent.
 use crate::arena::Arena;
-use crate::arena::List;
 use crate::links::Chain;
 use crate::links::link;
+use lists::Span;
 use lists::least;
 ghost use mathlib.Core.Path.{_≡_};
 ghost use Rattle.selection.specs.Standing.{namesChain, pairsChain, Stood};
@@ -32,7 +32,7 @@ fn pairs_chain(arena: Arena) -> Chain
 }
 
 // By name and parent only where the shape pass is over, which goes by names alone.
-pub fn link_list(s: &mut [u32], arena: Arena, list: List, shape: bool)
+pub fn link_list(s: &mut [u32], arena: Arena, list: Span, shape: bool)
     ensures { λ _. ⌜ Stood arena shape (now (s .entry)) (now (s .exit)) list ⌝ }
 {
     link(s, names_chain(arena), list);

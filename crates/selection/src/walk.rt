@@ -1,14 +1,12 @@
 // The two passes of the merge walk over one operation, and what they charge. Every function ends and stays inside its words on
 // any image; what it yields is the merge theory's walk where the image is good and the operation's sets are sound.
 use crate::arena::Arena;
-use crate::arena::List;
 use crate::arena::MOST_WORK;
 use crate::arena::Reply;
 use crate::arena::Walk;
+use crate::arena::area_of;
 use crate::arena::arena_of;
-use crate::expand::Expansion;
-use crate::expand::expand_selections;
-use crate::expand::queue_set;
+use crate::arena::registry_of;
 use crate::groups::Part;
 use crate::groups::Segment;
 use crate::groups::find_group;
@@ -18,14 +16,18 @@ use crate::groups::group_part;
 use crate::groups::next_subgroup;
 use crate::groups::row_at;
 use crate::groups::subgroup_part;
-use crate::known::forget;
-use crate::known::head_at;
-use crate::known::is_known;
-use crate::known::keep;
-use crate::known::list_length;
 use crate::standing::link_list;
+use expand::Expansion;
+use expand::expand_selections;
+use expand::queue_set;
+use known::forget;
+use known::is_known;
+use known::keep;
+use known::slot_of;
+use lists::Span;
 use lists::clear;
 use lists::least;
+use lists::span_length;
 use tables::FRAGMENTS;
 use tables::NONE;
 use tables::columns::field_arguments;
@@ -49,7 +51,7 @@ const LEVELS: u32 = 502;
 // What has been met: the list, and whether it is new and paid, so that the walk goes deeper into it.
 pub struct Met {
     pub walk: Walk,
-    pub list: List,
+    pub list: Span,
     pub deeper: bool,
 }
 
@@ -70,11 +72,12 @@ fn charge(walk: Walk, work: u32, rows: u32) -> Walk
 }
 
 // The list at hand is met: charged, and kept where it is new and paid.
-fn meet_list(s: &mut [u32], arena: Arena, work: u32, walk: Walk, list: List) -> Met
+fn meet_list(s: &mut [u32], arena: Arena, work: u32, walk: Walk, list: Span) -> Met
     ensures { λ r. ⌜ MeetsList (now (s .entry)) (now (s .exit)) arena work walk list r ⌝ }
 {
-    let head = head_at(&s[..], arena, list);
-    if is_known(&s[..], arena, head, list) {
+    let registry = registry_of(arena);
+    let slot = slot_of(&s[..], registry, list);
+    if is_known(&s[..], registry, slot, list) {
         let paid = charge(walk, work, 0);
         return Met {
             walk: paid,
@@ -82,7 +85,7 @@ fn meet_list(s: &mut [u32], arena: Arena, work: u32, walk: Walk, list: List) -> 
             deeper: false,
         };
     }
-    let mut paid = charge(walk, work, list_length(list));
+    let mut paid = charge(walk, work, span_length(list));
     let kind = paid.reply.kind;
     if kind != 0 {
         return Met {
@@ -91,7 +94,7 @@ fn meet_list(s: &mut [u32], arena: Arena, work: u32, walk: Walk, list: List) -> 
             deeper: false,
         };
     }
-    let known = keep(s, arena, head, walk.known, list);
+    let known = keep(s, registry, slot, walk.known, list);
     paid.known = known;
     Met {
         walk: paid,
@@ -128,8 +131,8 @@ fn meet_sets(
     ensures { λ r. ⌜ MeetsSets (now (image .entry)) arena work (now (s .entry)) (now (s .exit)) walk x shape r ⌝ }
 {
     let start = x.listed;
-    let end = expand_selections(image, s, arena, x);
-    let list = List { start, end };
+    let end = expand_selections(image, s, area_of(arena), x);
+    let list = Span { start, end };
     let mut next = walk;
     let number = x.number;
     next.expansions = number;
@@ -191,7 +194,7 @@ fn compare_segment(
     s: &[u32],
     arena: Arena,
     walk: Walk,
-    list: List,
+    list: Span,
     segment: Segment,
     shape: bool,
     a: u32,
@@ -257,7 +260,7 @@ fn queue_field(image: &[u32], s: &mut [u32], arena: Arena, x: Expansion, row: u3
     if is_empty_set(image, set) {
         return x;
     }
-    queue_set(s, arena, x, set)
+    queue_set(s, area_of(arena), x, set)
 }
 
 // The sets of a segment's fields are queued, from one of its places on.
@@ -266,7 +269,7 @@ fn queue_segment(
     s: &mut [u32],
     arena: Arena,
     x: Expansion,
-    list: List,
+    list: Span,
     segment: Segment,
     from: u32,
 ) -> Expansion
@@ -391,7 +394,7 @@ fn same_response_shape_by_name(
     arena: Arena,
     work: u32,
     walk: Walk,
-    list: List,
+    list: Span,
     level: u32,
 ) -> Walk
     requires { ⌜ Ample work 0 walk ⌝ }
@@ -425,7 +428,7 @@ fn same_for_common_parents_by_name(
     arena: Arena,
     work: u32,
     walk: Walk,
-    list: List,
+    list: Span,
     level: u32,
 ) -> Walk
     requires { ⌜ Ample work 0 walk ⌝ }
@@ -476,7 +479,7 @@ fn meet_operation(
 {
     let mut next = walk;
     next.known = 0;
-    let queued = queue_set(s, arena, begin_expansion(work, next), operation);
+    let queued = queue_set(s, area_of(arena), begin_expansion(work, next), operation);
     meet_sets(image, s, arena, work, next, queued, shape)
 }
 
@@ -491,7 +494,7 @@ fn shape_pass(
     requires { ⌜ Ample work 0 walk ⌝ }
     ensures { λ r. ⌜ Runs (now (image .entry)) arena work operation (now (s .entry)) (now (s .exit)) walk true r ⌝ }
 {
-    forget(s, arena);
+    forget(s, registry_of(arena));
     let met = meet_operation(image, s, arena, work, walk, operation, true);
     let next = met.walk;
     if met.deeper {
@@ -511,7 +514,7 @@ fn parent_pass(
     requires { ⌜ Ample work 0 walk ⌝ }
     ensures { λ r. ⌜ Runs (now (image .entry)) arena work operation (now (s .entry)) (now (s .exit)) walk false r ⌝ }
 {
-    forget(s, arena);
+    forget(s, registry_of(arena));
     let met = meet_operation(image, s, arena, work, walk, operation, false);
     let next = met.walk;
     if met.deeper {

@@ -18,8 +18,9 @@ regions : (image : List ℕ) (work : ℕ) {n f t b : ℕ} → n ≡ rowsAtMost i
       queue = n + n + n + f;
       lasts = n + n + n + f + t;
       heads = n + n + n + f + t + n;
-      links = n + n + n + f + t + n + n + 1;
-      store = n + n + n + f + t + n + n + 1 + 4 * (b + 1 + n);
+      chain = n + n + n + f + t + n + n + 1;
+      links = n + n + n + f + t + n + n + 1 + (b + 1 + n);
+      store = n + n + n + f + t + n + n + 1 + (b + 1 + n) + 4 * (b + 1 + n);
     }) (arenaOf image work)
 unfolding arenaOf roomOf
 regions image work n f t b = rw (n, f, t, b)
@@ -43,6 +44,7 @@ arena-of-spec =
     (λ c. search needs)
     (λ c. search needs)
     (λ c κs. search needs)
+    (λ c. search needs)
     (λ c. search needs)
     (λ c. search needs)
     (λ c. search needs)

@@ -5,7 +5,7 @@ use borrow.Author.Tests.{eq-eqb, ne-eqb}
 use mathlib.Core.Path.{_≡_, sym, _∙_}
 use mathlib.Core.Bool.{true, false}
 use mathlib.Core.List.{List}
-use Rattle.selection.specs.ImageDocument.{documentBy}
+use Rattle.expand.specs.ImageDocument.{documentBy}
 use Rattle.selection.specs.Comparing.{kindOfClash}
 use Rattle.merge_theory.specs.Walk.{unless}
 use Rattle.values.specs.Same.{sameArguments}

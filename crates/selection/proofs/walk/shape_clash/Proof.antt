@@ -4,7 +4,7 @@ use borrow.Author.Needs.{needs}
 use mathlib.Core.Path.{_≡_, sym, _∙_}
 use mathlib.Core.Bool.{true, false}
 use mathlib.Core.List.{List}
-use Rattle.selection.specs.ImageDocument.{documentBy}
+use Rattle.expand.specs.ImageDocument.{documentBy}
 use Rattle.selection.specs.Comparing.{kindOfClash}
 use Rattle.values.specs.Shape.{sameShape}
 use Rattle.merge_theory.specs.Walk.{unless}

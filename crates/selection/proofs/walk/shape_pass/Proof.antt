@@ -10,15 +10,16 @@ same-response-shape-by-name-requires : tie.Need-same-response-shape-by-name-requ
 same-response-shape-by-name-requires c κs = c .before .before .before .before .before .meet-operation .ensures .ample (c .before .before .before .before .before .meet-operation .ensures .going (c .before .if1 .taken))
 
 returns : tie.Need-returns
-returns c = pass-deeper true (c .before .before .before .before .before .before .before .before .before .before .before .before .forget .ensures) (c .before .before .before .before .before .before .before .before .meet-operation .kept .1 .0 ∙ c .before .before .before .before .before .before .before .before .before .before .before .before .forget .kept .0) (c .before .before .before .before .before .before .before .before .meet-operation .ensures) (c .before .before .before .before .if1 .taken) (c .before .before .same-response-shape-by-name .ensures)
+returns c = pass-deeper true (rw (c .before .before .before .before .before .before .before .before .before .before .before .before .before .registry-of .ensures) at (c .before .before .before .before .before .before .before .before .before .before .before .before .forget .ensures)) (c .before .before .before .before .before .before .before .before .meet-operation .kept .1 .0 ∙ c .before .before .before .before .before .before .before .before .before .before .before .before .forget .kept .0) (c .before .before .before .before .before .before .before .before .meet-operation .ensures) (c .before .before .before .before .if1 .taken) (c .before .before .same-response-shape-by-name .ensures)
 
 returns-2 : tie.Need-returns-2
-returns-2 c = pass-flat true (c .before .before .before .before .before .before .before .before .forget .ensures) (c .before .before .before .before .meet-operation .kept .1 .0 ∙ c .before .before .before .before .before .before .before .before .forget .kept .0) (c .before .before .before .before .meet-operation .ensures) (c .if1 .left)
+returns-2 c = pass-flat true (rw (c .before .before .before .before .before .before .before .before .before .registry-of .ensures) at (c .before .before .before .before .before .before .before .before .forget .ensures)) (c .before .before .before .before .meet-operation .kept .1 .0 ∙ c .before .before .before .before .before .before .before .before .forget .kept .0) (c .before .before .before .before .meet-operation .ensures) (c .if1 .left)
 
 pub shape-pass-spec : {M : Type 1} → statement M
 shape-pass-spec =
     tie.close
     (tie.spec
+    (λ c κs. search needs)
     (λ c κs. search needs)
     (λ c κs. search needs)
     same-response-shape-by-name-requires
