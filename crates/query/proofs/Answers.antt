@@ -18,6 +18,8 @@ use Rattle.merge_theory.proofs.Engines.{check-decides, entry-true, entry-breaks
 use Rattle.merge_theory.proofs.Theorems.{shape-before}
 use Rattle.tables.specs.Layout.{operations}
 use Rattle.tables.specs.Image.{countAt}
+use Rattle.rows.specs.Meaning.{BrokenAt}
+use Rattle.rows.proofs.Exactly.{rows-exactly, row-fault-exactly}
 use Rattle.rows.proofs.Promise.{rows-good}
 use Rattle.variable.specs.Verdict.{usageFault}
 use Rattle.variable.specs.Rules.{Verdict}
@@ -26,12 +28,12 @@ use Rattle.fragment.specs.Rules as fragment
 use Rattle.fragment.specs.Meaning.{Finds}
 use Rattle.fragment.proofs.Theorems.{fragments-decided}
 use Rattle.selection.specs.declared.arena.Reply.{Reply}
-use Rattle.query.specs.Stages.{Stage, at-fragments, at-variables, at-comparison, at-charge, at-end, place}
+use Rattle.query.specs.Stages.{Stage, at-rows, at-fragments, at-variables, at-comparison, at-charge, at-end, place}
 use Rattle.query.specs.Reply.{documentOf, replyBy}
 use Rattle.query.specs.Given.{Sane, Ran, ran-more, Enough, ComesTo, Given, bad-header, over-limit, short-scratch, bad-row, bad-fragments, bad-variables, a-conflict, budget-spent, passes}
 use Rattle.query.specs.Right.{NoCause, Covers, AllMerge, FirstInShape, AllRight}
 use Rattle.query.proofs.Soundness.{operation-sound}
-use Rattle.query.proofs.ShownKinds.{no-cause-0}
+use Rattle.query.proofs.ShownKinds.{row-shown, no-cause-0}
 use Rattle.query.proofs.Cases.{sane-good}
 use Rattle.query.proofs.Once.{given-once}
 use Rattle.query.proofs.Covering.{ran-more-budget}
@@ -76,6 +78,9 @@ module _ (run : Engine) (E : Decides run) (image : List ℕ) (work : ℕ) where
 module _ (run : Engine) (E : Decides run) (image : List ℕ) (work long : ℕ) where
   -- ---- the stage tells which rule fails, and where
 
+  pub rows-of : (r : Reply) → Given run image work long at-rows r → BrokenAt image (r .a) (r .b)
+  rows-of r (bad-row {r = x} h w e) = row-fault-exactly image h (x .a) (x .b) .0 (e ∙ ap some (row-shown image e))
+
   pub fragments-of : (r : Reply) → Given run image work long at-fragments r → Finds image (some (fragment.refusal (r .kind) (r .operation) (r .a)))
   fragments-of r (bad-fragments h w o e) = subst (Finds image) e (fragments-decided (rows-good h o))
 
@@ -106,6 +111,7 @@ module _ (run : Engine) (E : Decides run) (image : List ℕ) (work long : ℕ) w
       let holds : AllMerge image = λ i own. ran-holds run E image work (countAt image operations) used s (le-refl _) n i own in
       record {
         good = sane-good s;
+        rows = rows-exactly image (s .header) .0 (s .rows);
         fragments = subst (Finds image) (s .fragments) (fragments-decided (sane-good s));
         variables = λ i own. verdict-exactly image (sane-good s) i own none .0 (ran-clear run E image work (countAt image operations) used n i own);
         spread = sane-spread s;

@@ -8,7 +8,7 @@ use Rattle.lists.proofs.FirstLaws.{all-expect, all-next, of-some}
 use Rattle.merge_theory.specs.Document.{Cause, shape, name, arguments, numberOf}
 use Rattle.tables.specs.Header.{Refusal, headerFault}
 use Rattle.tables.proofs.ShownKinds.{header-kind}
-use Rattle.rows.specs.RowFault.{rowFault}
+use Rattle.rows.specs.RowFault.{badRow, rowFault}
 use Rattle.rows.proofs.ShownKinds.{row-kind}
 use Rattle.variable.specs.Verdict.{Shown, usesFault, definedFault, usageFault}
 use Rattle.fragment.specs.Rules as fragment
@@ -33,6 +33,10 @@ module _ (image : List ℕ) where
   pub header-stage : {r : Refusal} → headerFault image ≡ some r → stageOf (r .kind) ≡ at-header
   unfolding stageOf
   header-stage e = ap stageOf (of-some (λ (r : Refusal). r .kind ≡ 1) _ e (header-kind image))
+
+  -- a row fault shows kind 4, a table and a row
+  pub row-shown : {r : Refusal} → rowFault image ≡ some r → r ≡ badRow (r .a) (r .b)
+  row-shown {r} e = let four = of-some (λ (x : Refusal). x .kind ≡ 4) _ e (row-kind image) in rw (← four) refl
 
   pub row-stage : {r : Refusal} → rowFault image ≡ some r → stageOf (r .kind) ≡ at-rows
   unfolding stageOf

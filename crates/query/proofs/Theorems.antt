@@ -5,6 +5,8 @@
 --   demand 1
 --     given                every reply has its cause, that of its kind's stage, and no earlier one (specs/Given; proved in proofs/Cases)
 --     given-once           two replies with a cause are one (proofs/Once)
+--     rows-fail            4: a row rule of document 01 breaks, first at what is shown (rows/specs/Meaning)
+--     rows-given           and where it does, the reply is that
 --   demand 2
 --     fragments-fail       5 to 9: the rule on fragments fails, first at what is shown (fragment/specs/Meaning)
 --     fragments-given      and where it does, the reply is that
@@ -37,6 +39,8 @@ use Rattle.merge_theory.specs.Walk.{check}
 use Rattle.merge_theory.proofs.Engines.{check-decides}
 use Rattle.tables.specs.Header.{headerFault}
 use Rattle.rows.specs.RowFault.{rowFault}
+use Rattle.rows.specs.Meaning.{BrokenAt}
+use Rattle.rows.proofs.Exactly.{row-fault-exactly}
 use Rattle.rows.proofs.Promise.{rows-good}
 use Rattle.variable.specs.Verdict.{Shown}
 use Rattle.variable.specs.Rules.{Verdict}
@@ -45,12 +49,12 @@ use Rattle.fragment.specs.Rules as fragment
 use Rattle.fragment.specs.Meaning.{Finds, AllReached, AllSpread}
 use Rattle.fragment.proofs.Whole.{fragments-exactly}
 use Rattle.query.specs.Needed.{mostWork, scratchNeeded}
-use Rattle.query.specs.Stages.{Stage, at-fragments, at-variables, stageOf, place}
+use Rattle.query.specs.Stages.{Stage, at-rows, at-fragments, at-variables, stageOf, place}
 use Rattle.query.specs.Reply.{answer, documentOf, replyBy, reply}
-use Rattle.query.specs.Given.{Enough, ComesTo, Given, bad-fragments, bad-variables}
+use Rattle.query.specs.Given.{Enough, ComesTo, Given, bad-row, bad-fragments, bad-variables}
 use Rattle.query.specs.Right.{NoCause, Covers, AllMerge, AllMergeBy, EachSetMerges, FirstInShape, AllRight}
 use Rattle.query.proofs.ShownKinds.{cause-stage}
-use Rattle.query.proofs.Answers.{fragments-of, variables-of, sane-of, right-of, conflict-of, not-spent, spent-17, exactly, given-more, shape-first, first-shape}
+use Rattle.query.proofs.Answers.{rows-of, fragments-of, variables-of, sane-of, right-of, conflict-of, not-spent, spent-17, exactly, given-more, shape-first, first-shape}
 use Rattle.query.proofs.Covering.{raised-covers, some-covers}
 use Rattle.query.proofs.Meanings.{all-merge-means, sane-reached, sane-spread, each-set}
 -- ---- demand 1: a numbered answer to any words
@@ -65,6 +69,14 @@ module _ (run : Engine) (E : Decides run) (image : List ℕ) (work long : ℕ) w
   -- and of one whose kind is
   kind-cause : {k : ℕ} {s : Stage} → replyBy run image work long .kind ≡ k → stageOf k ≡ s → Given run image work long s (replyBy run image work long)
   kind-cause e stage = cause (ap stageOf e ∙ stage)
+
+  -- Kind 4: the table and the row shown are where the row rules of document 01 break first.
+  pub rows-fail : stageOf (replyBy run image work long .kind) ≡ at-rows → BrokenAt image (replyBy run image work long .a) (replyBy run image work long .b)
+  rows-fail at = rows-of run E image work long (replyBy run image work long) (cause at)
+
+  -- And where kinds 1 to 3 have no cause and they break first there, the reply is that.
+  pub rows-given : headerFault image ≡ none → Enough image work long → (t r : ℕ) → BrokenAt image t r → answer 4 0 t r 0 ≡ replyBy run image work long
+  rows-given header enough t r broken = given-once run image work long _ (bad-row header enough (row-fault-exactly image header t r .1 broken))
 
   -- ---- demand 2: each rule answers as the specification defines it
 

@@ -14,6 +14,7 @@ use Rattle.tables.specs.Layout.{operations, sets}
 use Rattle.tables.specs.Image.{countAt}
 use Rattle.tables.specs.Columns.{typeKind, fieldName, fieldType, fieldArguments}
 use Rattle.tables.specs.Good.{Good}
+use Rattle.rows.specs.Meaning.{KeepsRowRules}
 use Rattle.variable.specs.Verdict.{usageFault}
 use Rattle.variable.specs.Rules.{Verdict}
 use Rattle.fragment.specs.Meaning.{Finds, AllSpread}
@@ -79,6 +80,8 @@ pub record FirstInShape (image : List ℕ) (i : ℕ) : Type 0 where
 -- ---- every rule holds
 
 pub record AllRight (image : List ℕ) : Type 0 where
+  -- the row rules, as document 01 has them, and what the rules past them rely on
+  pub rows : KeepsRowRules image
   pub good : Good image
   -- 5 to 9 find nothing; 5.5.1.4 as it is written: each fragment is the target of a spread
   pub fragments : Finds image none
