@@ -2,6 +2,7 @@
 pub mod Lists
 pub mod Widths
 pub mod Innermost
+pub mod OneType
 pub mod Faults
 pub mod Tidy
 pub mod ShownKinds

@@ -7,4 +7,5 @@ pub mod Columns
 pub mod Keys
 pub mod Numbering
 pub mod Good
+pub mod TypeOf
 pub mod Lookup

@@ -18,14 +18,15 @@ use Rattle.lists.proofs.Parts.{le-or-lt}
 use Rattle.tables.specs.declared.Range.{Range}
 use Rattle.tables.specs.Layout.{NONE, operations, arguments, variables}
 use Rattle.tables.specs.Image.{countAt, rowIn}
-use Rattle.tables.specs.Columns.{variable, operationVariables, valueKind, valueAtom, variableName}
+use Rattle.tables.specs.Columns.{variable, operationVariables, argumentType, valueKind, valueAtom, variableName, variableType}
 use Rattle.tables.specs.Good.{Good}
 use Rattle.tables.proofs.Ranges.{row-in}
+use Rattle.tables.proofs.OneType.{a-type}
 use Rattle.reach.specs.Reach.{RowOf}
 use Rattle.variable.specs.Definitions.{nameIn, findName, isOutput, firstOutput, isRepeated, firstRepeated, usageAllowed}
 use Rattle.variable.specs.Uses.{furthest, usesOf, firstUnused, argumentAllowed, allowedBelow, firstMisused}
 use Rattle.variable.specs.Verdict.{Shown, foundIn, usesFault, definedFault, usageFault}
-use Rattle.variable.specs.Rules.{Lowest, Defines, UsesArgument, UsesName, AreUnique, Repeats, isInput, AreInputs, NoInput, AreUsed, Unused, isAllowed, IsUsage, AreAllowed, Misused, shown, Verdict, ten, eleven, twelve, thirteen, right}
+use Rattle.variable.specs.Rules.{Lowest, Defines, UsesArgument, UsesName, AreUnique, Repeats, IsInput, AreInputs, NoInput, AreUsed, Unused, IsAllowed, IsUsage, AreAllowed, Misused, shown, Verdict, ten, eleven, twelve, thirteen, right}
 use Rattle.variable.proofs.TypeMeaning.{usage-means, output-means}
 use Rattle.variable.proofs.Covers.{covers-of, of-covers}
 use Rattle.variable.proofs.UseMeaning.{few-variables}
@@ -87,22 +88,30 @@ module _ (image : List ℕ) (good : Good image) (i : ℕ) (known : i < countAt i
 
   -- ---- 10
 
-  output-at : (k : ℕ) → k < operationVariables image i .count → isOutput image (rowIn own k) ≡ not (isInput image i (operationVariables image i .first + k))
-  output-at k less = ap (isOutput image) (row-is k less) ∙ output-means image good _ (row-known k less)
+  output-at : (k : ℕ) → k < operationVariables image i .count → isOutput image (rowIn own k) ≡ isOutput image (operationVariables image i .first + k)
+  output-at k less = ap (isOutput image) (row-is k less)
+
+  an-input : (v : ℕ) → v < countAt image variables → isOutput image v ≡ false → IsInput image v
+  an-input v h e =
+      let (t, stands) = a-type image good (variableType image v) (good .variable v h .reference) in
+      record { type = t; stands = stands; input = not-false _ (sym (output-means image good v h stands) ∙ e) }
+
+  no-input : (v : ℕ) → v < countAt image variables → isOutput image v ≡ true → IsInput image v → ⊥
+  no-input v h e is = false≢true (sym (ap not (is .input)) ∙ sym (output-means image good v h (is .stands)) ∙ e)
 
   ten-found : firstOutput image own < operationVariables image i .count → Lowest (NoInput image i) (rowIn own (firstOutput image own))
   unfolding firstOutput
   ten-found less =
       search-found own small (λ k. isOutput image (rowIn own k)) (NoInput image i) (λ r b. b .defined)
-      (λ k l e. record { defined = row-of k l; output = bool-not _ (sym (output-at k l) ∙ e) })
-      (λ k l e b. let inp = not-false _ (sym (output-at k l) ∙ e) in absurd (false≢true (sym (b .output) ∙ inp)))
+      (λ k l e. record { defined = row-of k l; output = no-input _ (row-known k l) (sym (output-at k l) ∙ e) })
+      (λ k l e b. b .output (an-input _ (row-known k l) (sym (output-at k l) ∙ e)))
       less
 
   ten-none : operationVariables image i .count ≤ firstOutput image own → AreInputs image i
   unfolding firstOutput
   ten-none past v d =
       let (k, l, e) = place v d in
-      subst (λ (x : ℕ). isInput image i x ≡ true) e (not-false _ (sym (output-at k l) ∙ search-none _ (λ k. isOutput image (rowIn own k)) past k l))
+      subst (IsInput image) e (an-input _ (row-known k l) (sym (output-at k l) ∙ search-none _ (λ k. isOutput image (rowIn own k)) past k l))
 
   -- ---- 11
 
@@ -209,6 +218,16 @@ module _ (image : List ℕ) (good : Good image) (i : ℕ) (known : i < countAt i
 
     -- ---- 13
 
+    -- what is allowed of the types is what the code allows of the rows
+    is-allowed : (v a : ℕ) → v < countAt image variables → a < countAt image arguments → usageAllowed image v a ≡ true → IsAllowed image v a
+    is-allowed v a hv ha e =
+        let (s, own-stands) = a-type image good (variableType image v) (good .variable v hv .reference) in
+        let (t, place-stands) = a-type image good (argumentType image a) (good .argument a ha .reference) in
+        record { own = s; own-stands = own-stands; place = t; place-stands = place-stands; allowed = sym (usage-means image good v a hv ha own-stands place-stands) ∙ e }
+
+    not-allowed : (v a : ℕ) → v < countAt image variables → a < countAt image arguments → usageAllowed image v a ≡ false → IsAllowed image v a → ⊥
+    not-allowed v a hv ha e is = false≢true (sym e ∙ usage-means image good v a hv ha (is .own-stands) (is .place-stands) ∙ is .allowed)
+
     -- the variable that an argument is
     module _ (a : ℕ) (less : a < countAt image arguments) where
       refused-misused : UsesArgument image i a → argumentAllowed image own a ≡ false → Misused image i a
@@ -233,10 +252,10 @@ module _ (image : List ℕ) (good : Good image) (i : ℕ) (known : i < countAt i
               record {
                 by = operationVariables image i .first + findName image own (valueAtom image a);
                 usage = record { used = used; kind = p; defined = row-of _ there; name = sym (name-is _ there) ∙ name };
-                refused = sym (usage-means image good _ a (row-known _ there) less) ∙ ap (λ (v : ℕ). usageAllowed image v a) (sym row) ∙ no;
+                refused = not-allowed _ a (row-known _ there) less (ap (λ (v : ℕ). usageAllowed image v a) (sym row) ∙ no);
               }
 
-      allowed-usage : argumentAllowed image own a ≡ true → (v : ℕ) → IsUsage image i v a → isAllowed image i v a ≡ true
+      allowed-usage : argumentAllowed image own a ≡ true → (v : ℕ) → IsUsage image i v a → IsAllowed image v a
       unfolding argumentAllowed
       allowed-usage e v u =
           let (k, l, at) = place v (u .defined) in
@@ -247,7 +266,7 @@ module _ (image : List ℕ) (good : Good image) (i : ℕ) (known : i < countAt i
           let yes : usageAllowed image (rowIn own k) a ≡ true = rw (lt-ltb _ _ l) at placed in
           let row : rowIn own k ≡ v = row-is k l ∙ at in
           let inside : v < countAt image variables = let h = row-known k l in omega arith in
-          sym (usage-means image good v a inside less) ∙ ap (λ (x : ℕ). usageAllowed image x a) (sym row) ∙ yes
+          is-allowed v a inside less (ap (λ (x : ℕ). usageAllowed image x a) (sym row) ∙ yes)
 
     -- the test of the search, where the argument is covered or not
     test-breaks : (a : ℕ) → a < countAt image arguments → not (allowedBelow image own a (furthest endAt (suc a))) ≡ true → Misused image i a
@@ -258,7 +277,7 @@ module _ (image : List ℕ) (good : Good image) (i : ℕ) (known : i < countAt i
         pick (inl past) f = absurd (false≢true (sym (rw (le-ltb _ _ past) at f)))
         pick (inr far) f = refused-misused a less (covered-argument image good i known own a less (covers-of _ a far)) (rw (lt-ltb _ _ far) at f)
 
-    test-passes : (a : ℕ) → not (allowedBelow image own a (furthest endAt (suc a))) ≡ false → (v : ℕ) → IsUsage image i v a → isAllowed image i v a ≡ true
+    test-passes : (a : ℕ) → not (allowedBelow image own a (furthest endAt (suc a))) ≡ false → (v : ℕ) → IsUsage image i v a → IsAllowed image v a
     unfolding allowedBelow
     test-passes a e v u =
         let less = argument-known image good i known own a (u .used) in
@@ -273,8 +292,7 @@ module _ (image : List ℕ) (good : Good image) (i : ℕ) (known : i < countAt i
         record {
           breaks = test-breaks (position (countAt image arguments) test) less (position-passes (countAt image arguments) test less);
           least = λ q below b.
-              let allowed = test-passes q (before-position (countAt image arguments) test q below) (b .by) (b .usage) in
-              false≢true (sym (b .refused) ∙ allowed);
+              b .refused (test-passes q (before-position (countAt image arguments) test q below) (b .by) (b .usage));
         }
 
     thirteen-none : countAt image arguments ≤ firstMisused image own endAt → AreAllowed image i
@@ -328,7 +346,7 @@ lowest-one {Breaks} {q} {r} a b =
 
 module _ (image : List ℕ) (i : ℕ) where
   input-breaks : {A : Type 0} {v : ℕ} → AreInputs image i → Lowest (NoInput image i) v → A
-  input-breaks all l = absurd (false≢true (sym (l .breaks .output) ∙ all _ (l .breaks .defined)))
+  input-breaks all l = absurd (l .breaks .output (all _ (l .breaks .defined)))
 
   unique-breaks : {A : Type 0} {v : ℕ} → AreUnique image i → Lowest (Repeats image i) v → A
   unique-breaks all l = let b = l .breaks in let before = b .before in let same = all (b .earlier) _ (b .defines) (b .defined) (b .name) in absurd (omega arith)
@@ -337,7 +355,7 @@ module _ (image : List ℕ) (i : ℕ) where
   used-breaks all l = absurd (l .breaks .unused (all _ (l .breaks .defined)))
 
   allowed-breaks : {A : Type 0} {a : ℕ} → AreAllowed image i → Lowest (Misused image i) a → A
-  allowed-breaks all l = absurd (false≢true (sym (l .breaks .refused) ∙ all _ _ (l .breaks .usage)))
+  allowed-breaks all l = absurd (l .breaks .refused (all _ _ (l .breaks .usage)))
 
   pub verdict-one : (o p : Option Shown) → Verdict image i o → Verdict image i p → o ≡ p
   verdict-one o p (ten v l e) (ten w m f) = e ∙ ap (shown image i 10) (lowest-one l m) ∙ sym f

@@ -1,22 +1,39 @@
 -- The rules on an operation's variables, written from the specification of October 2021 (5.8.1, 5.8.2, 5.8.4, 5.8.5) over what an
--- operation reaches: relations, no words of scratch; types are read by `typeOf`, whose steps suffice. Document 01's gaps are said where they are.
+-- operation reaches: relations, no words of scratch and no steps. A type is the one that a reference stands for. Document 01's gaps are
+-- said where they are.
 -- Assumes nothing.
 use Prim.Native.Nat.{ℕ, _<_, _≤_}
 use mathlib.Core.Path.{_≡_}
-use mathlib.Core.Bool.{Bool, true, false}
+use mathlib.Core.Bool.{true}
 use mathlib.Core.List.{List}
 use mathlib.Core.Option.{Option, none, some}
 use lib.Dec.{eqb}
 use Rattle.tables.specs.Columns.{variable, list, operationVariables, operationDirectives, fragmentDirectives, fieldArguments, selectionDirectives, argumentType, argumentDefault, valueKind, valueAtom, valueMembers, variableName, variableType, variableDefault}
 use Rattle.tables.specs.Good.{StandsIn}
+use Rattle.tables.specs.TypeOf.{Ty, StandsFor}
 use Rattle.reach.specs.Reach.{RowOf, Reaches, SpreadsIn}
-use Rattle.variable.specs.Types.{isInputType, isVariableUsageAllowed, typeOf, kindAt}
+use Rattle.variable.specs.Types.{isInputType, isVariableUsageAllowed, kindAt}
 use Rattle.variable.specs.Verdict.{Shown}
 
 -- r breaks a rule, and no lower row does
 pub record Lowest (Breaks : ℕ → Type 0) (r : ℕ) : Type 0 where
   pub breaks : Breaks r
   pub least : (q : ℕ) → q < r → Breaks q → ⊥
+
+module _ (image : List ℕ) where
+  -- IsInputType(variableType) is true, of the type that a variable has
+  pub record IsInput (v : ℕ) : Type 0 where
+    pub type : Ty
+    pub stands : StandsFor image (variableType image v) type
+    pub input : isInputType (kindAt image) type ≡ true
+
+  -- IsVariableUsageAllowed(variableDefinition, variableUsage) is true, of the types that a variable and an argument's place have
+  pub record IsAllowed (v a : ℕ) : Type 0 where
+    pub own : Ty
+    pub own-stands : StandsFor image (variableType image v) own
+    pub place : Ty
+    pub place-stands : StandsFor image (argumentType image a) place
+    pub allowed : isVariableUsageAllowed own place (eqb (variableDefault image v) 1) (eqb (argumentDefault image a) 1) ≡ true
 
 module _ (image : List ℕ) (i : ℕ) where
   -- ---- what operation i defines and uses; its own set is set i
@@ -62,15 +79,12 @@ module _ (image : List ℕ) (i : ℕ) where
 
   -- ---- 5.8.2 Variables Are Input Types: IsInputType(variableType) is true of each variable
 
-  abbrev pub isInput : ℕ → Bool
-  isInput v = isInputType (kindAt image) (typeOf image (variableType image v))
-
   abbrev pub AreInputs : Type 0
-  AreInputs = (v : ℕ) → Defines v → isInput v ≡ true
+  AreInputs = (v : ℕ) → Defines v → IsInput image v
 
   pub record NoInput (v : ℕ) : Type 0 where
     pub defined : Defines v
-    pub output : isInput v ≡ false
+    pub output : IsInput image v → ⊥
 
   -- ---- 5.8.4 All Variables Used: each variable that an operation defines is used in the operation itself or in a fragment that it
   -- reaches by spreads
@@ -85,10 +99,6 @@ module _ (image : List ℕ) (i : ℕ) where
   -- ---- 5.8.5 All Variable Usages Are Allowed: IsVariableUsageAllowed of each usage. Document 01's gaps: a usage in a list or an
   -- object is passed over, and so is one that the operation does not define
 
-  abbrev pub isAllowed : (v a : ℕ) → Bool
-  isAllowed v a =
-      isVariableUsageAllowed (typeOf image (variableType image v)) (typeOf image (argumentType image a)) (eqb (variableDefault image v) 1) (eqb (argumentDefault image a) 1)
-
   -- argument a is variable v
   pub record IsUsage (v a : ℕ) : Type 0 where
     pub used : UsesArgument a
@@ -97,12 +107,12 @@ module _ (image : List ℕ) (i : ℕ) where
     pub name : variableName image v ≡ valueAtom image a
 
   abbrev pub AreAllowed : Type 0
-  AreAllowed = (v a : ℕ) → IsUsage v a → isAllowed v a ≡ true
+  AreAllowed = (v a : ℕ) → IsUsage v a → IsAllowed image v a
 
   pub record Misused (a : ℕ) : Type 0 where
     pub by : ℕ
     pub usage : IsUsage by a
-    pub refused : isAllowed by a ≡ false
+    pub refused : IsAllowed image by a → ⊥
 
   -- ---- the four in their order, and what is shown
 

@@ -1,17 +1,11 @@
--- Types as the specification of October 2021 speaks of them, and its algorithms on them (IsInputType of 5.8.2, and those of 5.8.5),
--- step by step with the steps' text beside, shortened. At the end, the type that a reference of table 1 means. Assumes nothing.
-use Prim.Native.Nat.{ℕ, zero, suc}
+-- The specification's algorithms on types, October 2021 (IsInputType of 5.8.2, and those of 5.8.5), step by step with the steps' text
+-- beside, shortened. Which type a reference stands for is said in tables. Assumes nothing.
+use Prim.Native.Nat.{ℕ}
 use mathlib.Core.Bool.{Bool, true, false, cond, not, _&&_, _||_}
 use mathlib.Core.List.{List}
 use lib.Dec.{eqb}
-use Rattle.tables.specs.Layout.{NONE}
-use Rattle.tables.specs.Columns.{typeKind, referenceKind, referenceChild, isListReference}
-
--- a named type (by its row), a list of items of a type, a non-null type
-pub data Ty : Type 0 where
-  named : ℕ → Ty
-  listOf : Ty → Ty
-  nonNull : Ty → Ty
+use Rattle.tables.specs.Columns.{typeKind}
+use Rattle.tables.specs.TypeOf.{Ty, named, listOf, nonNull}
 
 unfoldable pub isNonNullType : Ty → Bool
 isNonNullType (named t) = false
@@ -67,27 +61,12 @@ isVariableUsageAllowed variableType locationType hasVariableDefaultValue hasLoca
     -- 4. Return AreTypesCompatible(variableType, locationType).
     (areTypesCompatible variableType locationType)
 
--- ---- the type of a reference
+-- ---- what is read of a reference and of a type row
 
 -- reference kinds: 0 named, 1 non-null named, 2 list, 3 non-null list
 unfoldable pub isNonNull : ℕ → Bool
 isNonNull kind = eqb kind 1 || eqb kind 3
 
-unfoldable pub wrapped : Bool → Ty → Ty
-wrapped true t = nonNull t
-wrapped false t = t
-
-module _ (image : List ℕ) where
-  unfoldable pub typeIn : (steps reference : ℕ) → Ty
-  typeIn zero r = named NONE
-  typeIn (suc steps) r =
-      let items = typeIn steps (referenceChild image r) in
-      wrapped (isNonNull (referenceKind image r)) (cond (isListReference (referenceKind image r)) (listOf items) (named (referenceChild image r)))
-
-  -- children are earlier, so one step more than the row's number suffices
-  unfoldable pub typeOf : ℕ → Ty
-  typeOf r = typeIn (suc r) r
-
-  -- the kind of a type row, for `isInputType`
-  abbrev pub kindAt : ℕ → ℕ
-  kindAt t = typeKind image t
+-- the kind of a type row, for `isInputType`
+abbrev pub kindAt : List ℕ → ℕ → ℕ
+kindAt image t = typeKind image t
