@@ -160,8 +160,8 @@ module _ (image : List ℕ) (header : headerFault image ≡ none) where
       (sym (all-whole image (good-tables image 9 all) refl refl)
       ∙ sym (values-fault image _ _ (sets-exactly image all .1 s) (selections-exactly image all .1 n) (short _ _ (values-exactly image all .0) left) r))
 
-  -- the rules are kept, or break somewhere
-  abbrev SomeBroken : Type 0
+  -- the rules are kept, or break at a place, and at no other
+  abbrev pub SomeBroken : Type 0
   SomeBroken = (t : ℕ) × (r : ℕ) × BrokenAt image t r
 
   first-broken : (t : ℕ) → t < 9 → GoodBelow image t → firstBad image t < countAt image t → BrokenAt image t (firstBad image t)
@@ -189,8 +189,8 @@ module _ (image : List ℕ) (header : headerFault image ≡ none) where
             | no past ↦ inl (rw add-one at (good-more image n below refl (omega arith)))
           ]
 
-  decided : KeepsRowRules image ⊎ SomeBroken
-  decided = go (search-to 9 (le-refl _))
+  pub kept-or-broken : KeepsRowRules image ⊎ SomeBroken
+  kept-or-broken = go (search-to 9 (le-refl _))
     where
       go : GoodBelow image 9 ⊎ SomeBroken → KeepsRowRules image ⊎ SomeBroken
       go (inr broken) = inr broken
@@ -210,19 +210,24 @@ module _ (image : List ℕ) (header : headerFault image ≡ none) where
             ]
           ]
 
+  table : Option Refusal → ℕ
+  table none = 0
+  table (some x) = x .a
+
+  row : Option Refusal → ℕ
+  row none = 0
+  row (some x) = x .b
+
+  pub broken-once : {t r u q : ℕ} → BrokenAt image t r → BrokenAt image u q → (t ≡ u) × (r ≡ q)
+  unfolding table row
+  broken-once a b = let same = sym (shows a) ∙ shows b in (ap table same, ap row same)
+
   pub row-fault-exactly : (t r : ℕ) → (rowFault image ≡ some (badRow t r)) ↔ BrokenAt image t r
+  unfolding table row
   row-fault-exactly t r = (says, shows)
     where
-      table : Option Refusal → ℕ
-      table none = 0
-      table (some x) = x .a
-
-      row : Option Refusal → ℕ
-      row none = 0
-      row (some x) = x .b
-
       says : rowFault image ≡ some (badRow t r) → BrokenAt image t r
-      says e = go decided
+      says e = go kept-or-broken
         where
           go : KeepsRowRules image ⊎ SomeBroken → BrokenAt image t r
           go (inl k) = some-is-not-none (sym e ∙ rows-exactly .1 k)
