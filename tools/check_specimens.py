@@ -1,5 +1,6 @@
 #!/usr/bin/env python3
-"""Writes the specimens of the whole check: document 01's, and three on the walk's order, each with its budget, its scratch and the five numbers of its reply.
+"""Writes the specimens of the whole check: document 01's, a budget over the limit, and three on the walk's order, each with its budget, its scratch and
+the five numbers of its reply.
 
     tools/check_specimens.py > crates/query/specs/Specimens.antt
 
@@ -142,8 +143,8 @@ CASES = [
     ("`{a{x} a{x}}`, T and T!, String and String!: the outer pair comes first", SHAPE_OVER_SHAPE, 100, 5136, (14, 0, 0, 1, 3)),
 ]
 
-HEAD = """-- Specimens of the whole check, document 01's and three on the walk's order: images, budgets, scratch, and the five numbers of each reply. Written by
--- tools/check_specimens.py. Assumes nothing.
+HEAD = """-- Specimens of the whole check, document 01's, a budget over the limit, and three on the walk's order: images, budgets, scratch, and the five
+-- numbers of each reply. Written by tools/check_specimens.py. Assumes nothing.
 use Prim.Native.Nat.{ℕ}
 use mathlib.Core.List.{List, [], _∷_}
 use Rattle.selection.specs.declared.arena.Reply.{Reply}

@@ -5,12 +5,13 @@
     tools/worst_images.py TITLE SIZE WORK       writes that case, with that budget, as the program `replay` reads it
 
 An image for `replay` has at most 65,536 words, and a check there at most 262,144 words of scratch. So the largest size is the limit
-of the table where that fits, and otherwise a size that does.
+of the table where that fits, and otherwise a size that does. The images of HOSTILE are made to take long for their size, and have sizes of
+several numbers: tools/times.py times them, with scratch that a host lends.
 """
 import sys
 
 from image import (
-    FIELD, INLINE, INT, LIST_VALUE, NAMED, NONE, OBJECT, OBJECT_VALUE, SCALAR, SPREAD, TABLES, VARIABLE, as_bytes, scratch_needed, words,
+    FIELD, INLINE, INT, INTERFACE, LIST, LIST_VALUE, NAMED, NONE, OBJECT, OBJECT_VALUE, SCALAR, SPREAD, TABLES, VARIABLE, as_bytes, scratch_needed, words,
 )
 
 MOST_SCRATCH = 262144
@@ -244,6 +245,93 @@ IMAGES = [
     ("lists", lists, (3840, 7680, 15360)),
     ("members", members, (7, 14, 28)),
 ]
+
+
+# ---- images that take long for their size
+
+
+def towers(depth):
+    """References to a scalar through so many levels of lists, in two towers; the last two references are their tops."""
+    return [(NAMED, 0), (NAMED, 0)] + [(LIST, i) for i in range(2 * depth - 2)]
+
+
+def typed(name, reference):
+    return (FIELD, name, 3, reference, 0, 0, NONE, 0, 0)
+
+
+def deep_types(fields, depth):
+    """Fields of different names, whose type is so many levels of lists: each field's innermost type is looked for."""
+    return document([[typed(10 + i, depth - 1) for i in range(fields)]], references=[(NAMED, 0)] + [(LIST, i) for i in range(depth - 1)])
+
+
+def deep_shapes(fields, depth):
+    """Fields of one name, whose types are two towers: each field's type is compared with the first one's, level by level."""
+    top = 2 * depth - 1
+    return document([[typed(3, top - (i == 0)) for i in range(fields)]], references=towers(depth))
+
+
+def usage(number, arguments, depth):
+    """Operations that each have so many arguments with one variable in all; its type and that of the places are two towers."""
+    top = 2 * depth - 1
+    spreads = [[(SPREAD, 0, 0, 0, 0, 0, 0, 0, arguments)]] * number
+    return document(
+        spreads + [[leaf()]], references=towers(depth), operations=[(0, 1, 0, 0)] * number, fragments=[(0, 0)],
+        arguments=[(10 + i, top - 1, 0) for i in range(arguments)], values=[(VARIABLE, NONE, 99, 0)] * arguments, variables=[(99, top, 0)])
+
+
+def shared_arguments(fields):
+    """Fields of different names that all have the same 64 arguments: whose names are compared pairwise, for each field."""
+    given = [(10 + i, LEAF, 0) for i in range(64)]
+    return document([[leaf(10 + i, 0, 64) for i in range(fields)]], arguments=given, values=[(INT, NONE, 5, 0)] * 64)
+
+
+def one_sum(lists, number=1):
+    """Fields whose lists have three rows each, no two lists alike, and one sum, so one key; so many operations spread them all."""
+    singles = 500
+    ways = ((a, b, 750 - a - b) for a in range(singles) for b in range(singles))
+    picks = [way for way, _ in zip((w for w in ways if 0 <= w[2] < singles and len(set(w)) == 3), range(lists))]
+    tops = [[spread(0), spread(1)]] + [[spread(0)]] * (number - 1)
+    shared = number + 2 + singles
+    fragments = [[composite(shared + i) for i in range(lists)], [spread(2 + i) for i in range(singles)]] + [[leaf(100000 + i)] for i in range(singles)]
+    below = [[spread(2 + i) for i in pick] for pick in picks]
+    return document(tops + fragments + below, operations=[(0, 0, 0, 0)] * number, fragments=[(0, 0)] * (2 + singles))
+
+
+def alike(objects, members):
+    """Two arguments of one name with the same value: an object of so many members, or a list of such objects."""
+    lists = [(LIST_VALUE, NONE, 2 + objects * i, objects) for i in range(2)] if objects > 1 else []
+    first = len(lists) + 2 * objects
+    heads = [(OBJECT_VALUE, NONE, first + members * i, members) for i in range(2 * objects)]
+    return {"arguments": [(10, LEAF, 0)] * 2, "values": lists + heads + [(INT, 100 + k, 5, 0) for _ in heads for k in range(members)]}
+
+
+def many_fields(fields, objects, members):
+    """Equal fields, whose arguments are two values that are long to compare: the first field is compared with each other."""
+    return document([[leaf(3, min(i, 1), 1) for i in range(fields)]], **alike(objects, members))
+
+
+def faces(kinds, fields, objects, members, number=1):
+    """One name under so many object types and, so many times, under an interface: each object's field is compared with all of these."""
+    first = number + 1
+    sets = [[spread(0)]] * number + [[inline(first + i) for i in range(kinds + 1)]] + [[leaf(3, 0, 1)]] * kinds + [[leaf(3, 1, 1)] * fields]
+    image = document(sets, references=[(NAMED, 0)], operations=[(0, 0, 0, 0)] * number, fragments=[(0, 0)], **alike(objects, members))
+    parents = [1] * first + [3 + i for i in range(kinds)] + [2]
+    types = BASE["types"] + [(3, INTERFACE)] + [(4 + i, OBJECT) for i in range(kinds)]
+    return {**image, "types": types, "sets": [(parent, *row[1:]) for parent, row in zip(parents, image["sets"])]}
+
+
+# title, how it is built, the sizes
+HOSTILE = [
+    ("deep-types", deep_types, ((2048, 2048), (4096, 4096), (8192, 8192))),
+    ("deep-shapes", deep_shapes, ((2048, 1024), (4096, 2048), (8192, 4096))),
+    ("usage", usage, ((16, 2048, 1024), (32, 4096, 2048), (64, 8192, 4096))),
+    ("shared-arguments", shared_arguments, ((2048,), (4096,), (8192,))),
+    ("one-sum", one_sum, ((400,), (800,), (1600,), (1600, 37))),
+    ("many-fields", many_fields, ((1000, 31, 256), (2000, 31, 256), (4000, 31, 256))),
+    ("faces", faces, ((510, 1000, 1, 1), (1020, 2000, 1, 1), (2040, 4000, 1, 1), (2040, 4000, 1, 1, 64), (15, 15, 31, 256), (30, 30, 31, 256))),
+]
+# the longest that was found for the door: with a budget that just suffices, and with a budget of 1000
+AT_THE_DOOR = [("faces", faces, ((38, 94, 1, 187), (13, 36, 1, 69, 10)))]
 
 
 def rows(image):

@@ -1,5 +1,5 @@
--- Specimens of the whole check, document 01's and three on the walk's order: images, budgets, scratch, and the five numbers of each reply. Written by
--- tools/check_specimens.py. Assumes nothing.
+-- Specimens of the whole check, document 01's, a budget over the limit, and three on the walk's order: images, budgets, scratch, and the five
+-- numbers of each reply. Written by tools/check_specimens.py. Assumes nothing.
 use Prim.Native.Nat.{ℕ}
 use mathlib.Core.List.{List, [], _∷_}
 use Rattle.selection.specs.declared.arena.Reply.{Reply}

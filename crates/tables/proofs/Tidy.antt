@@ -43,8 +43,7 @@ module _ (image : List ℕ) (e n : ℕ) (good : firstFault (tableFault image e) 
     inside = λ t h. omega (arith, grows (suc t) n h (le-refl n));
   }
 
--- every edition has the nine tables of document 01
--- every edition so far has nine
+-- every edition so far has the nine tables of document 01
 pub nine-exactly : (e : ℕ) → tableCount e ≡ 9
 unfolding tableCount
 nine-exactly e = ap length (one-edition e)

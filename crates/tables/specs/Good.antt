@@ -112,7 +112,7 @@ module _ (image : List ℕ) where
 
 -- The promise.
 pub record Good (image : List ℕ) : Type 0 where
-  -- nine tables at least, each with as many rows as its layout allows
+  -- nine tables at least, each with no more rows than its layout allows
   pub nine : 9 ≤ tableCount (wordAt image 0)
   pub few : (t : ℕ) → t < tableCount (wordAt image 0) → countAt image t ≤ mostRows (wordAt image 0) t
   pub type-kind : (r : ℕ) → r < countAt image types → typeKind image r ≤ 5

@@ -1,6 +1,7 @@
--- What each edition lays down: its tables, the words in their rows, and how many rows at most (document 01, "The image").
--- A later edition is one list more: nothing else says a width, a limit or the number of tables.
--- Assumes nothing.
+-- What each edition lays down: its tables, the words in their rows, and how many rows at most (document 01, "The image"). Header, cells and
+-- lookup take these numbers from here: to them a later edition is one list more. They stand again in the code (src/lib.rt), as the nine rules of
+-- the row check (rows/specs/RowFault), and in proofs, as bounds on how many tables and rows there are (tables, rows, reach, variable, selection,
+-- query). Assumes nothing.
 use Prim.Native.Nat.{ℕ, _+_, _*_, _-_}
 use mathlib.Core.List.{List, [], _∷_}
 use lib.ListN.{length, getD}
