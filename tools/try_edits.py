@@ -12,8 +12,8 @@ errors in that order; `first_error` reads them so:
 - An error that only follows from another one (`was not admitted`) is passed over.
 - A function that rattle proves without a proof file has its error as a note behind all the others. What the note stands for is met before whatever
   follows from it, so such a note is first where every error before it follows from another.
-- An error of a name or a field that is no longer there says that the edit changed the code's shape: the proof file no longer fits, and nothing is
-  shown. If that is the first error, the edit does not count, whatever comes after. Nor does one count that the compiler refuses.
+- An error of a name or a field that is no longer there, or of a proof with too many arguments, says that the edit changed the code's shape: the proof
+  file no longer fits, and nothing is shown. If that is the first error, the edit does not count, whatever comes after. Nor does one count that the compiler refuses.
 """
 import argparse
 import pathlib
@@ -25,9 +25,9 @@ import time
 
 ROOT = pathlib.Path(__file__).resolve().parent.parent
 COPY = ROOT / "target/edits"
-ERROR = re.compile(r"^(?:note: )?(\S+):(\d+):\d+: (error.*|it is not proved.*)", re.M)
+ERROR = re.compile(r"^(?:note: )?(\S+):(\d+):\d+: (error.*(?:\n  .*)*|it is not proved.*)", re.M)
 FOLLOWS = re.compile(r"was not admitted")
-NO_FACT = re.compile(r"is not in scope|exports no such name|has no `|has no field")
+NO_FACT = re.compile(r"\A.*(?:is not in scope|exports no such name|has no `|binders, but its type has room)|record `[^`]*`\s+has no field")
 NAME = re.compile(r"`([^`]+)`")
 
 
