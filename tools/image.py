@@ -36,14 +36,6 @@ def longer(image, table, row):
     return {**image, table: image.get(table, []) + [row]}
 
 
-def header(image, *changes):
-    """The image's words with some of them changed."""
-    out = words(image)
-    for at, word in changes:
-        out[at] = word
-    return out
-
-
 def scratch_needed(image, work):
     """The words of scratch that a check of this image needs."""
     return 8 * work + 16 * sum(len(image.get(name, [])) for name in TABLES) + 4096
