@@ -1,0 +1,49 @@
+/** The lines of a place, and what is marked in each: the name that two fields share, and what is wrong. */
+
+const MOST_LINES = 8;
+
+/**
+ * @typedef {object} Line
+ * @property {number} number
+ * @property {string} line
+ * @property {{from: number, to: number, isWrong: boolean}[]} marks  columns from 0, in order, none of them overlapping
+ */
+
+/**
+ * @param {import('../finding.mjs').Place} place
+ * @param {import('../text.mjs').Text} text
+ * @returns {(Line | undefined)[]}  undefined stands for lines that are left out
+ */
+export function excerpt({ marks, name }, text) {
+  const signs = marks.map((mark) => ({ ...mark, isWrong: true }));
+  if (name && !marks.some(({ start }) => start === name.start)) signs.push({ ...name, isWrong: false });
+  signs.sort((x, y) => x.start - y.start);
+  const first = text.position(signs[0].start).line;
+  const last = text.position(Math.max(...signs.map(({ start, end }) => Math.max(start, end - 1)))).line;
+  const out = [];
+  for (let number = first; number <= last; number += 1) {
+    if (number - first === MOST_LINES - 1 && last - number > 0) {
+      out.push(undefined);
+      number = last;
+    }
+    const line = text.line(number);
+    out.push({ number, line, marks: marksIn(line, text.starts[number - 1], signs) });
+  }
+  return out;
+}
+
+/** The marks of one line; a mark that began in a line before starts at the first letter of this one. */
+function marksIn(line, start, signs) {
+  const indent = line.length - line.trimStart().length;
+  const out = [];
+  let at = 0;
+  for (const sign of signs) {
+    const from = Math.max(sign.start - start, at, sign.start < start ? indent : 0);
+    const isPoint = line.length <= from && sign.start - start === from; // the end of the line is what is wrong
+    const to = isPoint ? from + 1 : Math.min(sign.end - start, line.length);
+    if (to <= from) continue;
+    out.push({ from, to, isWrong: sign.isWrong });
+    at = to;
+  }
+  return out;
+}
