@@ -46,12 +46,13 @@ export async function check(project, schema, engine, { budget = PROGRAM_BUDGET, 
   const rest = allRules ? otherFindings(schema, asked, [...found]) : [];
   const findings = inOrder(project, [...found, ...rest]);
   const isWrong = findings.some(({ severity }) => severity === 'error') || answers.some(({ state }) => state !== 'passed');
+  const isMended = mended && findings.some(({ tried }) => tried) && !before.findings.length && answers.every(({ state }) => state !== 'not checked');
   return {
     findings,
     queries: answers.filter(({ unit }) => unit.operations.length).map(({ unit, state, used, words }) => (
       { name: unit.name, file: unit.operations[0].loc.source.name, state, used, words })),
     passed: !isWrong,
-    mended: isWrong && mended && !before.findings.length && answers.every(({ state }) => state !== 'not checked'),
+    mended: isMended,
     unreadable: project.syntaxErrors.length > 0,
   };
 }

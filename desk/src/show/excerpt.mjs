@@ -1,6 +1,8 @@
 /** The lines of a place, and what is marked in each: the name that two fields share, and what is wrong. */
 
 const MOST_LINES = 8;
+const WIDEST = 160; // characters of a line; of a longer one a part is shown
+const BEFORE = 40; // characters of that part before its first mark
 
 /**
  * @typedef {object} Line
@@ -27,7 +29,7 @@ export function excerpt({ marks, name }, text) {
       number = last;
     }
     const line = text.line(number);
-    out.push({ number, line, marks: marksIn(line, text.starts[number - 1], signs) });
+    out.push({ number, ...part(line, marksIn(line, text.starts[number - 1], signs)) });
   }
   return out;
 }
@@ -46,4 +48,15 @@ function marksIn(line, start, signs) {
     at = to;
   }
   return out;
+}
+
+/** A line, or of a very long one the part around its first mark. */
+function part(line, marks) {
+  if (line.length <= WIDEST) return { line, marks };
+  const start = Math.max(0, Math.min((marks[0]?.from ?? 0) - BEFORE, line.length - WIDEST));
+  const end = start + WIDEST;
+  const lead = start ? '.. ' : '';
+  const shift = lead.length - start;
+  const inside = marks.filter(({ from }) => from < end).map((mark) => ({ ...mark, from: mark.from + shift, to: Math.min(mark.to, end) + shift }));
+  return { line: lead + line.slice(start, end) + (end < line.length ? ' ..' : ''), marks: inside };
 }
