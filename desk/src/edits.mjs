@@ -46,11 +46,11 @@ function overlap(x, y) {
 }
 
 function holds(x, y) {
-  return x.start <= y.start && y.end <= x.end && x.end - x.start > y.end - y.start;
+  return overlap(x, y) && x.start <= y.start && y.end <= x.end && x.end - x.start > y.end - y.start;
 }
 
+/** From the last edit to the first, so that the offsets of those before stay right. */
 function edited(body, edits) {
-  let out = body;
-  for (const { span, text } of [...edits].sort((x, y) => y.span.start - x.span.start)) out = out.slice(0, span.start) + text + out.slice(span.end);
-  return out;
+  const backwards = [...edits].sort((x, y) => y.span.start - x.span.start || y.span.end - x.span.end);
+  return backwards.reduce((out, { span, text }) => out.slice(0, span.start) + text + out.slice(span.end), body);
 }
