@@ -29,10 +29,11 @@ const MOST_MISFITS = 50; // shown of one file
  * @returns {Promise<Report>}
  */
 export async function check(project, schema, engine, { budget = PROGRAM_BUDGET, allRules = false, only, onProgress = () => {} } = {}) {
-  const { units, files } = chosen(project, only);
+  const all = project.units();
+  const { units, files } = chosen(project, all, only);
   const before = beforeTheCheck(project, schema, files);
   const asked = units.filter(({ operations }) => operations.length || before.allSpreadsKnown);
-  const context = { project, schema, engine, budget, uses: counter(asked) };
+  const context = { project, schema, engine, budget, uses: counter(all) };
   let done = 0;
   const answers = await inTurn(asked, async (unit) => {
     const isBroken = [...unit.members].some((node) => before.broken.has(node));
@@ -58,8 +59,7 @@ export async function check(project, schema, engine, { budget = PROGRAM_BUDGET, 
 }
 
 /** The units to check, and the files they stand in. */
-function chosen(project, only) {
-  const all = project.units();
+function chosen(project, all, only) {
   if (!only) return { units: all, files: [...project.texts.keys()] };
   const filesOf = ({ members }) => [...members].map(({ loc }) => loc.source.name);
   const units = all.filter((unit) => filesOf(unit).some((file) => only.has(file)));

@@ -42,7 +42,7 @@ export function editedTexts(edits, texts) {
 }
 
 function overlap(x, y) {
-  return x.start < y.end && y.start < x.end;
+  return (x.start < y.end && y.start < x.end) || (x.start === y.start && x.end === y.end);
 }
 
 function holds(x, y) {

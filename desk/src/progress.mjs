@@ -9,7 +9,7 @@ const PAUSE = { terminal: 100, file: 10_000 };
  */
 export function progress(stream, clock = Date.now) {
   const start = clock();
-  let last = 0;
+  let last = stream.isTTY ? 0 : start;
   let shown = false;
   return {
     /** As in: checked 1,200 of 10,000 queries. */

@@ -79,4 +79,5 @@ test('edits that touch are both made; an edit that holds another takes its place
   assert.equal(made(edit(0, 4, 'y'), edit(0, 8, 'z')), 'z');
   assert.equal(made(edit(0, 8, 'z'), edit(0, 4, 'y')), 'z');
   assert.equal(made(edit(5, 6, 'y'), edit(5, 6, 'z')), '...F y x');
+  assert.equal(made(edit(5, 5, 'a: '), edit(5, 5, 'b: ')), '...F a: h x');
 });
