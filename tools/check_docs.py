@@ -9,7 +9,7 @@ import sys
 from try_edits import edited, edits_of
 
 ROOT = pathlib.Path(__file__).resolve().parent.parent
-PATH = re.compile(r"`((?:crates|tools|docs|hosts|examples|compare|edits)/[\w./*-]+|\.ci/run|NOTICE|crates\.txt)`")
+PATH = re.compile(r"`((?:crates|tools|docs|hosts|examples|compare|edits|desk)/[\w./*-]+|\.ci/run|NOTICE|crates\.txt)`")
 EDIT = re.compile(r"`([a-z_0-9]+\.edit)`")
 
 
