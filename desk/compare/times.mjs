@@ -4,7 +4,7 @@
  *
  *   node desk/compare/times.mjs
  *
- * Milliseconds, medians of up to 60 rounds after some that are not counted. The texts are made here, against compare/peers/schema.graphql;
+ * Milliseconds: the shortest and the median of up to 60 rounds, after some that are not counted. The texts are made here, against compare/peers/schema.graphql;
  * nothing is wrong in them.
  */
 import { spawnSync } from 'node:child_process';
@@ -40,7 +40,8 @@ function repeated(lines) {
   return ['query Again {', '  font(id: 1) {', ...Array.from({ length: lines - 4 }, () => '    anchor(side: ABOVE) { x }'), '  }', '}'].join('\n');
 }
 
-async function median(work) {
+/** The shortest time and the median. */
+async function time(work) {
   const times = [];
   const begin = performance.now();
   for (let i = 0; i < ROUNDS + NOT_COUNTED && (times.length < 3 || performance.now() - begin < LONGEST); i += 1) {
@@ -48,7 +49,8 @@ async function median(work) {
     await work();
     if (i >= NOT_COUNTED || performance.now() - begin > LONGEST / 4) times.push(performance.now() - start);
   }
-  return times.sort((x, y) => x - y)[times.length >> 1].toFixed(1);
+  times.sort((x, y) => x - y);
+  return [times[0], times[times.length >> 1]].map((one) => one.toFixed(1).padStart(9)).join('');
 }
 
 const { schema } = readSchema([new Text(SCHEMA, readFileSync(SCHEMA, 'utf8'))]);
@@ -66,17 +68,17 @@ for (const [name, body] of [['50 lines', ordinary(50)], ['500 lines', ordinary(5
   writeFileSync(file, body);
   const command = () => spawnSync(path.join(ROOT, 'desk/ponybluster'), ['check', '--schema', SCHEMA, '--budget', String(BUDGET), file]);
   const rows = {
-    'text to answer': await median(() => check(make(), schema, engine, { budget: BUDGET })),
-    '  of it, parsing': await median(read),
-    '  of it, fit with the schema': await median(() => misfits(schema, read())),
-    '  of it, packing': await median(() => pack(schema, unit, project.target)),
-    '  of it, the proved program': await median(() => engine.ask(words, BUDGET)),
-    'graphql-js, parse and merge rule': await median(() => validate(schema, read(), [OverlappingFieldsCanBeMergedRule])),
-    'graphql-js, parse and all rules': await median(() => validate(schema, read(), specifiedRules)),
-    'the whole command': await median(command),
+    'text to answer': await time(() => check(make(), schema, engine, { budget: BUDGET })),
+    '  of it, parsing': await time(read),
+    '  of it, fit with the schema': await time(() => misfits(schema, read())),
+    '  of it, packing': await time(() => pack(schema, unit, project.target)),
+    '  of it, the proved program': await time(() => engine.ask(words, BUDGET)),
+    'graphql-js, parse and merge rule': await time(() => validate(schema, read(), [OverlappingFieldsCanBeMergedRule])),
+    'graphql-js, parse and all rules': await time(() => validate(schema, read(), specifiedRules)),
+    'the whole command': await time(command),
   };
   console.log(`${name} (${body.split('\n').length} lines, ${words.length} words, ${report.queries[0].used} units)`);
-  for (const [what, time] of Object.entries(rows)) console.log(`  ${what.padEnd(36)}${time.padStart(8)}`);
+  for (const [what, times] of Object.entries(rows)) console.log(`  ${what.padEnd(36)}${times}`);
 }
 engine.stop();
 rmSync(folder, { recursive: true });

@@ -75,6 +75,13 @@ test('without a config the schema beside the query is taken', PATIENCE, () => wi
   assert.equal((await opened)[0].code, 'conflict-shape');
 }));
 
+test('a config below the editor\'s folder is found from the file that is open', PATIENCE, () => withEditor(
+  folderOf(Object.fromEntries(Object.entries(FILES).map(([name, body]) => [`fonts/${name}`, body]))), async (editor) => {
+    const opened = editor.next(`fonts/${TONE}`);
+    editor.open(`fonts/${TONE}`, FILES[TONE]);
+    assert.equal((await opened)[0].code, 'conflict-arguments');
+  }));
+
 test('no schema at all is said once; odd messages do not end the server', PATIENCE, () => withEditor(folderOf({ 'a.graphql': '' }), async (editor) => {
   const said = editor.hope('window/showMessage');
   editor.open('a.graphql', '{ a }');

@@ -18,14 +18,14 @@ const FORMATS = { text, json, sarif };
 
 /** @returns {Promise<number>} the exit status */
 export async function runCheck(values, words, out, err) {
-  const options = readOptions(values);
+  const { show, ...options } = readOptions(values);
   const files = chooseFiles(values.schema, words);
   if (files.remark) err(`${files.remark}\n`);
   const far = progress(process.stderr);
   try {
     const { report, project } = await checkFiles(files, options, far);
     far.end();
-    out(options.show(report, project, { colour: process.stdout.isTTY && !process.env.NO_COLOR && process.env.TERM !== 'dumb' }));
+    out(show(report, project, { colour: process.stdout.isTTY && !process.env.NO_COLOR && process.env.TERM !== 'dumb' }));
     if (values.sheet) writeSheet(values.sheet, sheet(report, project), err);
     if (report.unreadable) return 2;
     return report.passed ? 0 : 1;
@@ -40,22 +40,26 @@ function readOptions({ format, budget = String(PROGRAM_BUDGET), 'all-rules': all
   return { show: FORMATS[format], budget: Number(budget), allRules };
 }
 
-async function checkFiles(files, { budget, allRules }, far) {
-  const schemaTexts = readTexts(files.schema);
-  const texts = readTexts(files.queries, (done, all) => far.tell('read', done, all, 'files'));
-  const { schema, errors } = readSchema(schemaTexts);
-  if (!schema) return { project: new Project([...schemaTexts, ...texts]), report: schemaReport(errors) };
-  const project = new Project(texts);
-  if (!project.syntaxErrors.length && !project.definitions(Kind.OPERATION_DEFINITION).length) {
-    throw new FileError(`there is no query in ${files.queries.length === 1 ? files.queries[0] : `these ${files.queries.length} files`}: nothing was checked`);
-  }
+async function checkFiles(files, options, far) {
   const engine = new Engine();
+  engine.start(); // it gets ready while the files are read
   try {
+    const schemaTexts = readTexts(files.schema);
+    const texts = readTexts(files.queries, (done, all) => far.tell('read', done, all, 'files'));
+    const { schema, errors } = readSchema(schemaTexts);
+    if (!schema) return { project: new Project([...schemaTexts, ...texts]), report: schemaReport(errors) };
+    const project = new Project(texts);
+    needQuery(project, files.queries);
     const onProgress = (done, all) => far.tell('checked', done, all, 'queries');
-    return { project, report: await check(project, schema, engine, { budget, allRules, onProgress }) };
+    return { project, report: await check(project, schema, engine, { ...options, onProgress }) };
   } finally {
     engine.stop();
   }
+}
+
+function needQuery(project, files) {
+  if (project.syntaxErrors.length || project.definitions(Kind.OPERATION_DEFINITION).length) return;
+  throw new FileError(`there is no query in ${files.length === 1 ? files[0] : `these ${files.length} files`}: nothing was checked`);
 }
 
 /** The report on a schema that is wrong itself. */

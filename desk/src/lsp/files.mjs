@@ -29,12 +29,13 @@ export class OpenFiles {
   }
 
   /**
-   * The files that belong together: those that .graphqlrc.json names, with those that are open. Without it, the .graphql files in the folder
-   * of the schema that is near to the first open file.
+   * The files that belong together: those that .graphqlrc.json names (of the editor's folder, else near the first open file), with those that
+   * are open. Without it, the .graphql files in the folder of the schema that is near to the first open file.
    * @returns {{schema: Text[], queries: Text[]}}
    */
   project() {
-    const config = findConfig(this.root);
+    const [first] = this.open.keys();
+    const config = findConfig(this.root) ?? (first && findConfig(path.dirname(first)));
     const files = config ? configFiles(config) : this.near();
     const isSchema = new Set(files.schema);
     const queries = [...new Set([...files.documents, ...this.open.keys()])].filter((file) => !isSchema.has(file) && !/\.schema\.graphql$/.test(file));

@@ -60,7 +60,7 @@ ${finding.places.map((place, i) => card(place, i, finding, project)).join('\n')}
 ${remarks.map(({ what, remark }) => `<p class="remark"><code translate="no">${escape(what)}</code>: ${inline(remark)}.</p>`).join('\n')}
 <p class="why">${inline(finding.sentence)}</p>
 ${finding.hints.map((hint) => `<p class="hint">${inline(capital(hint))}${/[?.]$/.test(hint) ? '' : '.'}</p>`).join('\n')}
-${finding.tried ? `<p class="help"><strong>How to mend it:</strong> ${inline(finding.help)}. <span class="tried">The text mended so was put to the proved check and passes.</span></p>` : ''}
+${finding.tried ? `<p class="help"><strong>How to mend it:</strong> ${inline(finding.help)}. <span class="tried">This was tried: with all its help followed, the text passes the proved check.</span></p>` : ''}
 </article>`;
 }
 
@@ -84,7 +84,7 @@ function card(place, i, finding, project) {
 <header><h3>${inline(heading)}</h3><span class="file">${escape(project.where(place.span))}</span></header>
 ${isConflict(finding) ? specimen(finding, i) : ''}
 <pre translate="no"><code>${lines(place, project.text(place.span))}</code></pre>
-<dl class="facts">${facts.map(([name, value]) => `<div><dt>${name}</dt><dd>${value}</dd></div>`).join('')}</dl>
+${facts.length ? `<dl class="facts">${facts.map(([name, value]) => `<div><dt>${name}</dt><dd>${value}</dd></div>`).join('')}</dl>` : ''}
 </section>`;
 }
 

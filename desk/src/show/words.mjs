@@ -38,8 +38,9 @@ export function summary({ passed, findings, queries }) {
   if (passed) return { verdict: 'passed', rest: `${all}, and each name in the answers stands for one thing` };
   const errors = findings.filter(({ severity }) => severity === 'error').length;
   const states = ['passed', 'refused', 'not checked'].map((state) => [queries.filter((query) => query.state === state).length, state]);
+  if (!queries.length) return { verdict: 'refused', rest: `${count(errors, 'error')}, and no query was checked` };
   const parts = states.filter(([n]) => n).map(([n, state]) => `${n.toLocaleString('en')} ${state}`);
-  return { verdict: 'refused', rest: `${count(errors, 'error')} in ${all}${parts.length ? ` (${parts.join(', ')})` : ''}` };
+  return { verdict: 'refused', rest: `${count(errors, 'error')} in ${all} (${parts.join(', ')})` };
 }
 
 export const MENDED = 'With all of this help followed, the proved check passes.';
