@@ -90,8 +90,8 @@ async function mendComplaints(report, project, schema) {
   }
   count('refused, and mended by the help');
   const texts = editedTexts(fixes.flatMap(({ fix }) => fix.edits), project.texts);
-  const again = await check(project.with([...texts.values()]), schema, engine, { budget: BUDGET });
-  return again.passed ? [] : [`not mended by its fixes:\n${texts.get('query').body}\n`];
+  const again = await check(new Project([texts.get('query') ?? project.texts.get('query')]), schema, engine, { budget: BUDGET });
+  return again.passed ? [] : [`not mended by its fixes:\n${texts.get('query')?.body}\n`];
 }
 
 function countPeer(schema, project, kind) {

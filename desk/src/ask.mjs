@@ -57,6 +57,7 @@ export async function askAbout(unit, context) {
       answer.budget = about.needed;
       break;
     }
+    if (answer.findings.length >= MOST_FINDINGS) finding.hints.push(`these are ${MOST_FINDINGS} findings in one query: more were not looked for`);
     if (!mend || answer.findings.length >= MOST_FINDINGS) return answer;
     mended.set(...mend);
   }

@@ -51,7 +51,7 @@ export async function check(project, schema, engine, { budget = PROGRAM_BUDGET, 
   return {
     findings,
     queries: answers.filter(({ unit }) => unit.operations.length).map(({ unit, state, used, words }) => (
-      { name: unit.name, file: unit.operations[0].loc.source.name, state, used, words })),
+      { name: unit.name, file: unit.file, state, used, words })),
     passed: !isWrong,
     mended: isMended,
     unreadable: project.syntaxErrors.length > 0,

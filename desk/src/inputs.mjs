@@ -18,7 +18,7 @@ export function chooseFiles(schemaWords, queryWords, folder = process.cwd()) {
   const config = schemaWords.length && queryWords.length ? undefined : findConfig(folder);
   const fromConfig = config && configFiles(config);
   const named = (files = []) => files.map((file) => path.relative(folder, file));
-  const all = (words) => [...new Set(words.flatMap((word) => expand(word, folder)))];
+  const all = (words) => distinct(words.flatMap((word) => expand(word, folder)), folder);
   const queries = queryWords.length ? all(queryWords) : named(fromConfig?.documents);
   if (!queries.length) throw new UsageError('which queries? Name files, folders or patterns, or write "documents" in .graphqlrc.json');
   const { schema, remark } = chooseSchema(all(schemaWords), named(fromConfig?.schema), queries, folder);
@@ -26,6 +26,13 @@ export function chooseFiles(schemaWords, queryWords, folder = process.cwd()) {
   const rest = queries.filter((file) => !isSchema.has(path.resolve(folder, file)));
   if (!rest.length) throw new FileError('the schema is the only file that was named: there is no query');
   return { schema, queries: rest, remark };
+}
+
+/** A file that is named in two ways counts once. */
+function distinct(files, folder) {
+  const byPath = new Map();
+  for (const file of files) if (!byPath.has(path.resolve(folder, file))) byPath.set(path.resolve(folder, file), file);
+  return [...byPath.values()];
 }
 
 function chooseSchema(given, fromConfig, queries, folder) {

@@ -1,6 +1,7 @@
 /** Tries the help: makes the fixes in the texts, reads these texts again and puts them to the proved check. */
 import { editedTexts } from './edits.mjs';
 import { Engine } from './engine.mjs';
+import { Kind } from './graphql.mjs';
 import { pack } from './pack.mjs';
 import { Project } from './project.mjs';
 import { misfits } from './schema.mjs';
@@ -57,17 +58,20 @@ async function passes({ unit, budget }, changed, { project, schema, engine }) {
 
 /** The same unit in the changed texts, or undefined where they cannot be read. */
 function mendedUnit(unit, changed, project) {
-  const [operation] = unit.operations;
-  if (!operation) {
-    const mended = project.with([...changed.values()]);
-    const left = mended.units().find(({ operations }) => !operations.length);
-    return { project: mended, unit: left ?? { operations: [], fragments: [], members: new Set(), elsewhere: [] } };
-  }
   const mended = new Project(filesOf(unit).map((file) => changed.get(file) ?? project.texts.get(file)));
-  const file = operation.loc.source.name;
-  const same = mended.operationsIn(file)[project.operationsIn(file).indexOf(operation)];
-  const found = same && mended.units().find(({ operations }) => operations[0] === same);
-  return found && !mended.syntaxErrors.length ? { project: mended, unit: found } : undefined;
+  if (mended.syntaxErrors.length) return undefined;
+  const [operation] = unit.operations;
+  if (!operation) return { project: mended, unit: mended.unusedUnit(unit.file, stillThere(unit, mended)) };
+  const same = mended.operationsIn(unit.file)[project.operationsIn(unit.file).indexOf(operation)];
+  const found = mended.units().find(({ operations }) => operations[0] === same);
+  return found && { project: mended, unit: found };
+}
+
+/** The unused fragments of a unit that the changed texts still have. */
+function stillThere({ file, fragments, elsewhere }, mended) {
+  const names = new Set(fragments.filter((node) => !elsewhere.includes(node)).map(({ name }) => name.value));
+  const definitions = mended.documents.get(file)?.definitions ?? [];
+  return new Set(definitions.filter(({ kind, name }) => kind === Kind.FRAGMENT_DEFINITION && names.has(name.value)));
 }
 
 /** Whether every spread of a unit has its fragment, and the unit fits the schema. */

@@ -10,10 +10,11 @@ import { definitionName } from './names.mjs';
 /**
  * @typedef {object} Unit
  * @property {string} name
- * @property {object[]} operations  one, or none for the fragments that no operation reaches
+ * @property {string} file
+ * @property {object[]} operations  one, or none for the fragments of a file that no operation reaches
  * @property {object[]} fragments  in the order of the files
  * @property {Set<object>} members  all of these definitions
- * @property {object[]} elsewhere  members that the unit of some operation has too; only where there is no operation
+ * @property {object[]} elsewhere  members that are checked in another unit; only where there is no operation
  */
 
 const parsedTexts = new WeakMap(); // a text that did not change is parsed once
@@ -42,12 +43,6 @@ export class Project {
       if (known) known.push(node);
       else this.fragmentsByName.set(node.name.value, [node]);
     }
-  }
-
-  /** The same project with some texts replaced. */
-  with(texts) {
-    const changed = new Map(texts.map((text) => [text.file, text]));
-    return new Project([...this.texts.values()].map((text) => changed.get(text.file) ?? text));
   }
 
   definitions(kind) {
@@ -89,20 +84,25 @@ export class Project {
     return reached;
   }
 
-  /** @returns {Unit[]} one for each operation; then, if there are any, one for the fragments that no operation reaches */
+  /** @returns {Unit[]} one for each operation; then one for each file with fragments that no operation reaches */
   units() {
     const left = new Set(this.definitions(Kind.FRAGMENT_DEFINITION));
     const units = this.definitions(Kind.OPERATION_DEFINITION).map((operation) => {
       const members = this.reach(operation);
       for (const member of members) left.delete(member);
-      return { name: definitionName(operation), operations: [operation], fragments: this.fragmentsOf(members), members, elsewhere: [] };
+      return { name: definitionName(operation), file: operation.loc.source.name, operations: [operation], fragments: this.fragmentsOf(members), members,
+        elsewhere: [] };
     });
-    if (left.size) {
-      const members = new Set([...left].flatMap((node) => [...this.reach(node)]));
-      units.push({ name: 'fragments that no query uses', operations: [], fragments: this.fragmentsOf(members), members,
-        elsewhere: [...members].filter((node) => !left.has(node)) });
-    }
-    return units;
+    const byFile = new Map();
+    for (const node of left) byFile.set(node.loc.source.name, [...(byFile.get(node.loc.source.name) ?? []), node]);
+    return [...units, ...[...byFile].map(([file, own]) => this.unusedUnit(file, new Set(own)))];
+  }
+
+  /** The fragments of a file that no operation reaches, with what they reach. */
+  unusedUnit(file, own) {
+    const members = new Set([...own].flatMap((node) => [...this.reach(node)]));
+    return { name: `unused fragments of ${file}`, file, operations: [], fragments: this.fragmentsOf(members), members,
+      elsewhere: [...members].filter((node) => !own.has(node)) };
   }
 
   fragmentsOf(members) {

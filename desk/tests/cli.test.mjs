@@ -26,7 +26,7 @@ test('a newcomer with a schema and two files sees both fields', () => {
 
 test('files, folders, patterns, or the files of .graphqlrc.json: the same answer', () => {
   const ways = [['queries/chart.graphql', 'queries/primer.graphql', 'fragments/mark.graphql', 'fragments/tone.graphql'], ['queries', 'fragments'],
-    ['{queries,fragments}/*.graphql'], ['queries/**', 'fragments/**/*.graphql'], ['queries/?*.graphql', 'fragments'], ['queries', 'queries', 'fragments'], []];
+    ['{queries,fragments}/*.graphql'], ['queries/**', 'fragments/**/*.graphql'], ['queries/?*.graphql', 'fragments'], ['queries', './queries/chart.graphql', `${EXAMPLE}/queries`, 'fragments'], []];
   const answers = ways.map((way) => run(['check', '--schema', 'schema.graphql', ...way]));
   for (const { stdout, status } of answers) {
     assert.equal(status, 1);

@@ -54,3 +54,29 @@ test('a budget that the program has no room for is said to be so', async () => {
   assert.deepEqual(kindsOf((await checked(query, { engine, budget: needed - 1 })).report), [17]);
   assert.deepEqual(kindsOf((await checked(query, { engine, budget: 1_000_000 })).report), []);
 });
+
+for (const [what, value, said] of [
+  ['lists nested over 64 levels', `${'['.repeat(70)}1${']'.repeat(70)}`, /error\[4\]: this goes over a limit of the check \(values, row \d+\)/],
+  ['an object with over 256 members', `{${Array.from({ length: 257 }, (_, i) => `k${i}: 1`).join(' ')}}`, /error\[4\]: this goes over a limit of the check \(values, row \d+\)/],
+]) {
+  test(`${what} are shown where they stand`, async () => {
+    const schema = 'scalar Any type Query { a(v: Any): Int }';
+    const { report, project } = await checked(`query Q {\n  a(v: ${value})\n}`, { engine, schema });
+    assert.match(text(report, project), said);
+    assert.equal(project.text(report.findings[0].places[0].span).position(report.findings[0].places[0].span.start).line, 2);
+  });
+}
+
+test('a query with more types than the image has room for', async () => {
+  const many = Array.from({ length: 4100 }, (_, i) => i);
+  const schema = `type Query { ${many.map((i) => `f${i}: T${i}`).join(' ')} } ${many.map((i) => `type T${i} { a: Int }`).join(' ')}`;
+  const { report, project } = await checked(`query Q { ${many.map((i) => `f${i} { a }`).join(' ')} }`, { engine, schema });
+  assert.match(text(report, project), /^error\[(1|18)\]: query Q /);
+  assert.equal(report.passed, false);
+});
+
+test('after fifty findings in one query it is said that more were not looked for', async () => {
+  const { report } = await checked(`{ font(id: 1) { ${Array.from({ length: 60 }, (_, i) => `v${i}: name v${i}: nick`).join(' ')} } }`, { engine, budget: 5000 });
+  assert.equal(report.findings.length, 50);
+  assert.match(report.findings.at(-1).hints[0], /more were not looked for/);
+});

@@ -88,6 +88,8 @@ test('no schema at all is said once; odd messages do not end the server', PATIEN
   assert.match((await said).message, /^ponybluster: which schema\?/);
   editor.child.stdin.write('Content-Length: 3\r\n\r\n{"a');
   editor.notify('no/such/thing', {});
+  editor.notify('textDocument/didOpen');
+  assert.equal((await editor.request('textDocument/codeAction', {})).code, -32603);
   assert.deepEqual(await editor.request('no/such/request'), { code: -32601, message: 'there is no no/such/request' });
 }));
 

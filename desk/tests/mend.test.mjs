@@ -22,6 +22,8 @@ for (const [what, files, kinds] of [
   ['two cycles in one fragment', 'query Q { font(id: 1) { ...A } }\nfragment A on Font {\n  name\n  ...A\n  main { code base { ...A nick } }\n}', [5, 5]],
   ['fragments that nothing uses', 'query Q { font(id: 1) { name } }\n\nfragment A on Font {\n  ...B\n}\n\nfragment B on Font { name }\n', [9, 9]],
   ['unused fragments with a cycle', 'query Q { font(id: 1) { name } }\nfragment A on Font { name ...B }\nfragment B on Font { nick ...A }\n', [5, 9, 9]],
+  ['unused fragments in two files', { 'q.graphql': 'query Q { font(id: 1) { ...C } } fragment C on Font { name }', 'a.graphql': 'fragment A on Font { ...B ...C }',
+    'b.graphql': 'fragment B on Font { size ...A }' }, [9, 9]],
   ['variables', 'query Q($a: Int, $b: Font, $b: Int, $id: ID, $s: Side) { font(id: $id) { anchor(side: $s) { x } } }', [12, 10, 12, 13]],
   ['a variable that a wrong type was given', 'query Q($s: Font) { font(id: 1) { anchor(side: $s) { x } } }', [10]],
   ['two files that share a fragment', { 'a.graphql': 'query A { font(id: 1) { v: name ...F } }', 'b.graphql': 'query B { font(id: 2) { ...F v: size } }',

@@ -44,10 +44,11 @@ export function doorSize({ a }, about) {
 
 /** Kind 1: an image of this packer has a wrong header only where a table has too many rows. */
 export function header(reply, about) {
-  const full = TABLES.find(([table, , most]) => about.packed[table]?.length > most);
-  if (!full) return toolFault(reply, about);
-  const [table, , most] = full;
-  return aboutUnit(about, `has ${number(about.packed[table].length)} ${table}, and ${number(most)} are allowed`,
+  const rows = (table) => about.packed.words[2 + 2 * table];
+  const full = TABLES.findIndex(([, , most], table) => rows(table) > most);
+  if (full < 0) return toolFault(reply, about);
+  const [table, , most] = TABLES[full];
+  return aboutUnit(about, `has ${number(rows(full))} ${table}, and ${number(most)} are allowed`,
     'They are counted with all fragments that the query reaches. Nothing more is known, so it counts as refused.');
 }
 

@@ -12,6 +12,7 @@ import { onMessages, sender } from './rpc.mjs';
 const PAUSE = 60; // milliseconds without a change before the check is asked
 const WHOLE_TEXTS = 1;
 const NO_SUCH_METHOD = -32601;
+const FAILED = -32603;
 
 /** @returns {Promise<number>} the exit status */
 export function serve(input, output) {
@@ -36,11 +37,16 @@ class Server {
     this.round = 0;
   }
 
+  /** A message that is wrong gets an error if it is a request, and is passed over if it is none. */
   take({ id, method, params }) {
     const handler = Object.hasOwn(HANDLERS, method) ? HANDLERS[method] : undefined;
-    if (id === undefined) handler?.(this, params);
-    else if (handler) this.send({ id, result: handler(this, params) ?? null });
-    else if (method) this.send({ id, error: { code: NO_SUCH_METHOD, message: `there is no ${method}` } });
+    let answer = { error: { code: NO_SUCH_METHOD, message: `there is no ${method}` } };
+    try {
+      if (handler) answer = { result: handler(this, params ?? {}) ?? null };
+    } catch (error) {
+      answer = { error: { code: FAILED, message: error.message } };
+    }
+    if (id !== undefined && method) this.send({ id, ...answer });
   }
 
   hold(uri, body) {
