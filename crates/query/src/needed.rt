@@ -1,4 +1,13 @@
-// The words of scratch that an image and a budget need.
+// The words of scratch that an image and a budget need, and who uses them.
+//
+//   stage                          words, one region behind the other
+//   fragments (kinds 5 to 9)       5 for each set: three heights, and two for the order of the sets or a walk over them; cleared after it
+//   then, for all operations:
+//   variables (kinds 10 to 13)     2 for each set (marks and queue of the walk), 1 for each value, 4 for each variable (mark, name, links)
+//   behind them, the merge walk    for each selection its parent, the class of its name, the class of its name and parent;
+//   (kinds 14 to 17)               a mark for each fragment, a queue of sets; for each selection the last place of its class;
+//                                  the known lists: a head for each key (selections + 1), a chain word for each place;
+//                                  four links for each place; the store. Places are work + 1 + selections
 use tables::count;
 use tables::table_count;
 use tables::word;
