@@ -26,7 +26,8 @@ async function pictures(browser, page, looks) {
 /** The page of examples/primer.graphql; where it is written. */
 function primerPage(folder) {
   const page = path.join(folder, 'primer.html');
-  const { status } = spawnSync(path.join(ROOT, 'desk/ponybluster'), ['check', 'examples/primer.graphql', '--sheet', page], { cwd: ROOT, stdio: ['ignore', 'ignore', 'inherit'] });
+  const words = ['check', 'examples/primer.graphql', '--sheet', page];
+  const { status } = spawnSync(path.join(ROOT, 'desk/ponybluster'), words, { cwd: ROOT, stdio: 'ignore' });
   if (status !== 1) throw new Error(`the check of the primer ended with ${status} in place of 1`);
   return page;
 }

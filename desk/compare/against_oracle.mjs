@@ -16,6 +16,7 @@ import { createInterface } from 'node:readline';
 import { check } from '../src/check.mjs';
 import { editedTexts } from '../src/edits.mjs';
 import { Engine } from '../src/engine.mjs';
+import { isConflict } from '../src/kinds.mjs';
 import { pack } from '../src/pack.mjs';
 import { Project } from '../src/project.mjs';
 import { readSchema } from '../src/schema.mjs';
@@ -67,10 +68,11 @@ function findingComplaints({ findings }, { reply: [kind], places }, project) {
   const errors = findings.filter(({ severity }) => severity === 'error');
   for (const finding of errors) {
     count('findings');
-    if (finding.kind >= 14 && finding.kind <= 16 && !finding.places.every(({ reached }) => reached)) out.push(`no way to ${finding.title}`);
+    if (isConflict(finding) && !finding.places.every(({ reached }) => reached)) out.push(`no way to ${finding.title}`);
   }
   if (!kind !== !errors.length) out.push(`kind ${kind}, but the findings are ${errors.map((one) => one.kind)}`);
-  if (kind && !errors.some((finding) => finding.kind === kind && samePlaces(finding, places, project))) out.push(`the cause of kind ${kind} is not among the findings`);
+  const isCause = (finding) => finding.kind === kind && samePlaces(finding, places, project);
+  if (kind && !errors.some(isCause)) out.push(`the cause of kind ${kind} is not among the findings`);
   return out;
 }
 

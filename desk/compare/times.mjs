@@ -4,8 +4,8 @@
  *
  *   node desk/compare/times.mjs
  *
- * Milliseconds: the shortest and the median of up to 60 rounds, after some that are not counted. The texts are made here, against compare/peers/schema.graphql;
- * nothing is wrong in them.
+ * Milliseconds: the shortest and the median of up to 60 rounds, after some that are not counted. The texts are made here, against
+ * compare/peers/schema.graphql; nothing is wrong in them.
  */
 import { spawnSync } from 'node:child_process';
 import { mkdtempSync, readFileSync, rmSync, writeFileSync } from 'node:fs';
@@ -29,10 +29,11 @@ const BUDGET = 5000;
 
 /** A query of so many lines: fonts with their glyphs, and two shared fragments. */
 function ordinary(lines) {
-  const font = (i) => [`  f${i}: font(id: ${i}) {`, '    name', '    weight', `    glyphs(first: ${i + 1}) {`, '      code', '      ...Mark', '    }', '    ...Face', '  }'];
+  const font = (i) => [`  f${i}: font(id: ${i}) {`, '    name', '    weight', `    glyphs(first: ${i + 1}) {`, '      code', '      ...Mark',
+    '    }', '    ...Face', '  }'];
   const body = Array.from({ length: Math.floor((lines - 12) / 9) }, (_, i) => font(i)).flat();
-  return ['query Chart {', ...body, '}', 'fragment Face on Font {', '  size', '  nick', '  main { ...Mark }', '}', 'fragment Mark on Glyph {', '  name',
-    '  pos: anchor(side: ABOVE) { x y }', '}'].join('\n');
+  return ['query Chart {', ...body, '}', 'fragment Face on Font {', '  size', '  nick', '  main { ...Mark }', '}', 'fragment Mark on Glyph {',
+    '  name', '  pos: anchor(side: ABOVE) { x y }', '}'].join('\n');
 }
 
 /** One field written again and again. */
@@ -56,7 +57,8 @@ async function time(work) {
 const { schema } = readSchema([new Text(SCHEMA, readFileSync(SCHEMA, 'utf8'))]);
 const engine = new Engine();
 const folder = mkdtempSync(path.join(tmpdir(), 'desk-times-'));
-for (const [name, body] of [['50 lines', ordinary(50)], ['500 lines', ordinary(500)], ['50 lines, one field', repeated(50)], ['500 lines, one field', repeated(500)]]) {
+const TEXTS = { '50 lines': ordinary(50), '500 lines': ordinary(500), '50 lines, one field': repeated(50), '500 lines, one field': repeated(500) };
+for (const [name, body] of Object.entries(TEXTS)) {
   const make = () => new Project([new Text('q', body)]);
   const project = make();
   const [unit] = project.units();

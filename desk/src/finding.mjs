@@ -48,7 +48,8 @@ export function findingOf(reply, about) {
   const { mend, ...made } = make(reply, about);
   const { name: rule } = KINDS[reply.kind] ?? { name: 'unknown' };
   const operations = about.unit.operations.map(definitionName);
-  return { mend, finding: { kind: reply.kind, rule, severity: 'error', path: [], differences: [], hints: [], tried: false, operations, reply, ...made } };
+  const base = { kind: reply.kind, rule, severity: 'error', path: [], differences: [], hints: [], tried: false, operations, reply };
+  return { mend, finding: { ...base, ...made } };
 }
 
 /** Who words each kind. Any other kind is a fault of the tool. */

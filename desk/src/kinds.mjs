@@ -86,6 +86,11 @@ larger budget, or split the query.` },
 query, or let the host call check_query_lent, which takes images of any length.` },
 };
 
+/** Whether a finding is about two fields that are stored under one name. */
+export function isConflict({ kind }) {
+  return kind >= 14 && kind <= 16;
+}
+
 /** What the check is never asked, because there is no image: the rule's name, and one line. */
 export const BEFORE = {
   syntax: 'The text is not GraphQL',

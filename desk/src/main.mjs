@@ -48,7 +48,8 @@ export async function main(words) {
 
 /** The reader of the output went away, or the disk is full. */
 function leave(error, err) {
-  err(error.code === 'EPIPE' ? 'ponybluster: the output was closed before all of it was written\n' : `ponybluster: the output cannot be written (${error.code})\n`);
+  const why = error.code === 'EPIPE' ? 'was closed before all of it was written' : `cannot be written (${error.code})`;
+  err(`ponybluster: the output ${why}\n`);
   process.exit(2);
 }
 

@@ -18,7 +18,8 @@ export async function tryFixes(answers, context) {
   const refused = answers.filter(({ state }) => state === 'refused');
   const mendable = refused.filter(({ isComplete }) => isComplete);
   const changed = editsOf(mendable, context.project);
-  const touched = answers.filter((answer) => answer.isComplete && (answer.state === 'refused' || filesOf(answer.unit).some((file) => changed.has(file))));
+  const isTouched = ({ unit, state }) => state === 'refused' || filesOf(unit).some((file) => changed.has(file));
+  const touched = answers.filter((answer) => answer.isComplete && isTouched(answer));
   if (await allPass(touched, changed, context)) {
     for (const { findings } of mendable) markTried(findings);
     return refused.length === mendable.length;

@@ -24,6 +24,7 @@ export function progress(stream, clock = Date.now) {
     },
     end() {
       if (shown && stream.isTTY) stream.write('\r\x1b[K');
+      shown = false;
     },
   };
 }

@@ -90,8 +90,8 @@ export class Project {
     const units = this.definitions(Kind.OPERATION_DEFINITION).map((operation) => {
       const members = this.reach(operation);
       for (const member of members) left.delete(member);
-      return { name: definitionName(operation), file: operation.loc.source.name, operations: [operation], fragments: this.fragmentsOf(members), members,
-        elsewhere: [] };
+      return { name: definitionName(operation), file: operation.loc.source.name, operations: [operation],
+        fragments: this.fragmentsOf(members), members, elsewhere: [] };
     });
     const byFile = new Map();
     for (const node of left) byFile.set(node.loc.source.name, [...(byFile.get(node.loc.source.name) ?? []), node]);

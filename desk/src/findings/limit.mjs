@@ -11,7 +11,8 @@ function headOf({ operations, fragments }) {
 
 function aboutUnit({ unit }, title, sentence) {
   const node = headOf(unit);
-  return { title: `${definitionName(node)} ${title}`, places: [definitionPlace(node, unit.operations.length ? 'this query' : 'this fragment')], sentence };
+  const label = unit.operations.length ? 'this query' : 'this fragment';
+  return { title: `${definitionName(node)} ${title}`, places: [definitionPlace(node, label)], sentence };
 }
 
 function number(n) {
@@ -19,7 +20,8 @@ function number(n) {
 }
 
 export function tooDeep(_, about) {
-  return aboutUnit(about, 'goes over 500 steps deep', 'Each field, spread and inline fragment on the way down is a step. The check follows 500 of them.');
+  return aboutUnit(about, 'goes over 500 steps deep',
+    'Each field, spread and inline fragment on the way down is a step. The check follows 500 of them.');
 }
 
 export function tooNested(_, about) {
@@ -28,8 +30,9 @@ export function tooNested(_, about) {
 
 /** `asked` is the budget that the program was given; `needed` the one that is enough, where a second question found it. */
 export function budget(_, about) {
+  const room = about.wanted > about.asked ? ` For this query the program has room for no more than ${number(about.asked)} units.` : '';
   const made = aboutUnit(about, `was not checked to the end: its budget of ${number(about.asked)} units of work ran out`,
-    `Nothing is known of what was left, so the query counts as refused.${about.wanted > about.asked ? ` For this query the program has room for no more than ${number(about.asked)} units.` : ''}`);
+    `Nothing is known of what was left, so the query counts as refused.${room}`);
   if (about.needed === undefined) return made;
   return { ...made, help: `give the check a larger budget, \`--budget ${about.needed}\`, and let the service give the same`, tried: true };
 }

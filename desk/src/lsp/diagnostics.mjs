@@ -1,6 +1,7 @@
 /** Findings as an editor wants them: a diagnostic at each place, the other places as related information, and the fix as an edit. */
 import path from 'node:path';
 import { pathToFileURL } from 'node:url';
+import { isConflict } from '../kinds.mjs';
 import { way } from '../show/words.mjs';
 
 const SEVERITY = { error: 1, warning: 2 };
@@ -11,8 +12,7 @@ const SEVERITY = { error: 1, warning: 2 };
  * @returns {{uri: string, diagnostic: object, action?: object}[]}  a conflict is shown at both fields
  */
 export function diagnosticsOf(finding, project) {
-  const isConflict = finding.kind >= 14 && finding.kind <= 16;
-  return finding.places.slice(0, isConflict ? 2 : 1).map((place, i) => {
+  return finding.places.slice(0, isConflict(finding) ? 2 : 1).map((place, i) => {
     const diagnostic = diagnosticAt(finding, i, project);
     return { uri: uriOf(place.span.file), diagnostic, action: finding.tried && finding.fix ? actionOf(finding, diagnostic, project) : undefined };
   });

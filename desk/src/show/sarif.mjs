@@ -28,12 +28,16 @@ function result(finding, rules) {
     ruleId: finding.rule,
     ruleIndex: rules.indexOf(finding.rule),
     level: finding.severity,
-    message: { text: [finding.title + (first.label && `: ${first.label}`), finding.sentence, finding.help && `Help: ${finding.help}.`].filter(Boolean).join('\n') },
+    message: { text: messageOf(finding, first) },
     locations: [location(first)],
     relatedLocations: others.map((place, i) => ({ id: i + 1, ...location(place), message: { text: place.label || 'and here' } })),
     fixes: finding.fix && [{ description: { text: finding.fix.label }, artifactChanges: finding.fix.edits.map(change) }],
     properties: { kind: finding.kind, path: finding.path, differences: finding.differences, hints: finding.hints },
   };
+}
+
+function messageOf({ title, sentence, help }, { label }) {
+  return [label ? `${title}: ${label}` : title, sentence, help && `Help: ${help}.`].filter(Boolean).join('\n');
 }
 
 function location(place) {

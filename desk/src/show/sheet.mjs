@@ -1,12 +1,15 @@
 /** One page for a designer: each conflict with its two fields side by side. The page is one file: no script, nothing from a network. */
 import { readFileSync } from 'node:fs';
+import { isConflict } from '../kinds.mjs';
 import { excerpt } from './excerpt.mjs';
 import { capital, escape, inline } from './html.mjs';
 import { MENDED, count, summary } from './words.mjs';
 
+const TRIED = 'This was tried: with all its help followed, the text passes the proved check.';
 const STYLE = readFileSync(new URL('./sheet.css', import.meta.url), 'utf8');
 const LONG = 14; // characters of a value; a longer one is set smaller
 const MOST_ROWS = 200; // of the table of queries
+const MOST_FINDINGS = 500; // on one page
 
 /** @param {import('../check.mjs').Report} report @param {import('../project.mjs').Project} project */
 export function sheet(report, project) {
@@ -26,7 +29,8 @@ ${STYLE}</style>
 <main>
 <h1>${escape(title)}</h1>
 <p class="verdict"><strong class="${verdict}">${capital(verdict)}</strong>: ${escape(rest)}.${report.mended ? ` ${escape(MENDED)}` : ''}</p>
-${report.findings.map((finding, i) => article(finding, i + 1, project)).join('\n')}
+${report.findings.slice(0, MOST_FINDINGS).map((finding, i) => article(finding, i + 1, project)).join('\n')}
+${report.findings.length > MOST_FINDINGS ? `<p>And ${count(report.findings.length - MOST_FINDINGS, 'more finding')}: the command shows all of them.</p>` : ''}
 ${queries(report)}
 </main>
 <footer><p>Each finding with a kind is an answer of the proved check. Lines and columns count from 1.</p></footer>
@@ -39,12 +43,9 @@ ${queries(report)}
 function headline({ findings }) {
   const errors = findings.filter(({ severity }) => severity === 'error');
   if (!errors.length) return 'Some queries were not checked';
-  if (errors.every(isConflict)) return errors.length === 1 ? 'One name stands for two things' : `${count(errors.length, 'name')} stand for two things each`;
+  if (errors.length === 1 && isConflict(errors[0])) return 'One name stands for two things';
+  if (errors.every(isConflict)) return `${count(errors.length, 'name')} stand for two things each`;
   return `${count(errors.length, 'thing')} to mend`;
-}
-
-function isConflict({ kind }) {
-  return kind >= 14 && kind <= 16;
 }
 
 function article(finding, number, project) {
@@ -60,14 +61,15 @@ ${finding.places.map((place, i) => card(place, i, finding, project)).join('\n')}
 ${remarks.map(({ what, remark }) => `<p class="remark"><code translate="no">${escape(what)}</code>: ${inline(remark)}.</p>`).join('\n')}
 <p class="why">${inline(finding.sentence)}</p>
 ${finding.hints.map((hint) => `<p class="hint">${inline(capital(hint))}${/[?.]$/.test(hint) ? '' : '.'}</p>`).join('\n')}
-${finding.tried ? `<p class="help"><strong>How to mend it:</strong> ${inline(finding.help)}. <span class="tried">This was tried: with all its help followed, the text passes the proved check.</span></p>` : ''}
+${finding.tried ? `<p class="help"><strong>How to mend it:</strong> ${inline(finding.help)}. <span class="tried">${TRIED}</span></p>` : ''}
 </article>`;
 }
 
 /** Where in the answer the two fields are stored. */
 function breadcrumbs(finding) {
   const [operation, ...more] = finding.operations;
-  const also = more.length ? ` <span class="small">(also in ${escape(more.length > 5 ? `${more.length} other queries` : more.join(', '))})</span>` : '';
+  const others = more.length > 5 ? `${more.length} other queries` : more.join(', ');
+  const also = more.length ? ` <span class="small">(also in ${escape(others)})</span>` : '';
   const names = finding.path.map((name, i) => `<li translate="no"${i === finding.path.length - 1 ? ' class="last"' : ''}>${escape(name)}</li>`);
   return `<nav aria-label="Place in the answer"><ol class="path"><li class="start">${escape(operation)}${also}</li>${names.join('')}</ol></nav>`;
 }
@@ -94,7 +96,8 @@ function specimen(finding, side) {
     const value = side ? one.second : one.first;
     const look = value === null ? 'none' : value.length > LONG ? 'long' : '';
     const codes = one.codes ? ` <small>${escape(one.codes[side])}</small>` : '';
-    return `<div><dt>${escape(one.what)}</dt><dd${look && ` class="${look}"`} translate="no">${value === null ? 'left out' : escape(value)}${codes}</dd></div>`;
+    const shown = value === null ? 'left out' : escape(value);
+    return `<div><dt>${escape(one.what)}</dt><dd${look && ` class="${look}"`} translate="no">${shown}${codes}</dd></div>`;
   }).join('')}</dl>`;
 }
 
