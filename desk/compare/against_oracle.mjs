@@ -21,21 +21,24 @@ import { pack } from '../src/pack.mjs';
 import { Project } from '../src/project.mjs';
 import { readSchema } from '../src/schema.mjs';
 import { Text } from '../src/text.mjs';
+import { inTurn } from '../src/turns.mjs';
 import { peerKinds } from './peer.mjs';
 
-const BUDGET = 20000;
+const BUDGET = 4000; // as in oracle_cases.py
 const engine = new Engine();
 const counts = new Map();
 const count = (what) => counts.set(what, (counts.get(what) ?? 0) + 1);
 
-for await (const line of createInterface({ input: process.stdin })) {
+const lines = [];
+for await (const line of createInterface({ input: process.stdin })) lines.push(line);
+await inTurn(lines, async (line) => {
   const one = JSON.parse(line);
   count('documents');
   for (const complaint of await complaints(one)) {
     count('DIFFERENT');
     console.log(`${one.name}: ${complaint}\n${one.text}\n`);
   }
-}
+});
 engine.stop();
 for (const [what, n] of [...counts].sort(([x], [y]) => x.localeCompare(y, 'en', { numeric: true }))) console.log(`${what}: ${n}`);
 process.exitCode = counts.get('DIFFERENT') ? 1 : 0;

@@ -11,7 +11,7 @@ import random
 import sys
 
 sys.dont_write_bytecode = True
-WORK = 20000
+WORK = 4000
 
 
 def places(packed, reply):
