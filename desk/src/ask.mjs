@@ -4,7 +4,7 @@
  * The check names one cause at a time. To find the next one, the unit is packed again with the last cause mended as its help says, and the
  * program is asked again. So every finding is an answer of the proved check. (Whether the mended text passes is asked later, by mend.mjs.)
  */
-import { Engine } from './engine.mjs';
+import { Engine, MOST_BUDGET } from './engine.mjs';
 import { findingOf } from './finding.mjs';
 import { findingOfError } from './findings/before.mjs';
 import { PackError, pack } from './pack.mjs';
@@ -40,21 +40,20 @@ export async function askAbout(unit, context) {
   for (let first = true; ; first = false) {
     const packed = packOrFail(unit, mended, context, answer);
     if (!packed) return answer;
-    const about = { ...context, packed, unit, mended };
     if (first) answer.words = packed.words.length;
     if (!Engine.hasRoomFor(packed.words)) {
-      answer.findings.push(tooLarge(packed.words.length, { ...about, unchecked: true }));
+      answer.findings.push(tooLarge(packed.words.length, { unit, unchecked: true }));
       return answer;
     }
-    const reply = await ask(packed.words, about);
+    const { reply, asked, needed } = await ask(packed.words, context);
     if (first) answer.used = reply.used;
     answer.state = 'refused';
     if (reply.kind === 0) break;
-    const { finding, mend } = findingOf(reply, about);
+    const { finding, mend } = findingOf(reply, { ...context, packed, unit, mended, asked, needed });
     if (mend && mended.has(mend[0])) return answer; // only the help before has caused it
     answer.findings.push(finding);
-    if (about.needed !== undefined) {
-      answer.budget = about.needed;
+    if (needed !== undefined) {
+      answer.budget = needed;
       break;
     }
     if (answer.findings.length >= MOST_FINDINGS) finding.hints.push(`these are ${MOST_FINDINGS} findings in one query: more were not looked for`);
@@ -63,7 +62,7 @@ export async function askAbout(unit, context) {
   }
   answer.isComplete = true;
   if (!answer.findings.length) answer.state = 'passed';
-  if (4 * answer.words > DOOR_BYTES) answer.findings.push(tooLarge(answer.words, { ...context, unit }));
+  if (4 * answer.words > DOOR_BYTES) answer.findings.push(tooLarge(answer.words, { unit }));
   return answer;
 }
 
@@ -78,20 +77,17 @@ function packOrFail(unit, mended, { schema, project }, answer) {
 }
 
 /**
- * The reply with the budget that is wanted. Where that runs out, the program is asked again with all it has room for: what it finds then says
- * more than "the budget ran out", and where it finds nothing, the budget that is needed is known.
+ * The reply with this budget, or as much of it as the program has room for (`asked`). Where that runs out, the program is asked again with all
+ * it has room for: what it finds then says more than "the budget ran out", and where it finds nothing, the budget that is `needed` is known.
  */
-async function ask(image, about) {
+async function ask(image, { engine, budget }) {
   const most = Engine.mostBudget(image);
-  about.wanted = about.budget;
-  about.asked = Math.min(about.budget, most);
-  const reply = await about.engine.ask(image, about.budget > 1_000_000 ? about.budget : about.asked);
-  if (reply.kind !== 17 || about.asked === most) return reply;
-  const again = await about.engine.ask(image, most);
-  if (again.kind === 17) return reply;
-  if (again.kind !== 0) return again;
-  about.needed = again.used;
-  return reply;
+  const asked = budget > MOST_BUDGET ? budget : Math.min(budget, most); // too large a budget is for the program to refuse
+  const reply = await engine.ask(image, asked);
+  if (reply.kind !== 17 || asked === most) return { reply, asked };
+  const again = await engine.ask(image, most);
+  if (again.kind === 17) return { reply, asked };
+  return again.kind === 0 ? { reply, asked, needed: again.used } : { reply: again, asked };
 }
 
 function tooLarge(words, about) {

@@ -46,16 +46,18 @@ export async function check(project, schema, engine, { budget = PROGRAM_BUDGET, 
   const found = new Set([...before.findings, ...answers.flatMap(({ findings }) => findings)]);
   const rest = allRules ? otherFindings(schema, asked, [...found]) : [];
   const findings = inOrder(project, [...found, ...rest]);
-  const isWrong = findings.some(({ severity }) => severity === 'error') || answers.some(({ state }) => state !== 'passed');
-  const isMended = mended && findings.some(({ tried }) => tried) && !before.findings.length && answers.every(({ state }) => state !== 'not checked');
+  const allAsked = !before.findings.length && answers.every(({ state }) => state !== 'not checked');
   return {
     findings,
-    queries: answers.filter(({ unit }) => unit.operations.length).map(({ unit, state, used, words }) => (
-      { name: unit.name, file: unit.file, state, used, words })),
-    passed: !isWrong,
-    mended: isMended,
+    queries: answers.filter(({ unit }) => unit.operations.length).map(queryOf),
+    passed: findings.every(({ severity }) => severity !== 'error') && answers.every(({ state }) => state === 'passed'),
+    mended: mended && allAsked && findings.some(({ tried }) => tried),
     unreadable: project.syntaxErrors.length > 0,
   };
+}
+
+function queryOf({ unit, state, used, words }) {
+  return { name: unit.name, file: unit.file, state, used, words };
 }
 
 /** The units to check, and the files they stand in. */
@@ -106,12 +108,12 @@ function shareFindings(answers) {
     answer.findings = answer.findings.map((finding) => {
       const places = finding.places.map(({ span }) => `${span.file}:${span.start}:${span.end}`).sort();
       const key = [finding.rule, finding.title, ...places].join('\n');
-      if (!known.has(key)) known.set(key, finding);
-      const shared = known.get(key);
-      shared.operations = [...new Set([...shared.operations, ...finding.operations])];
-      return shared;
+      if (!known.has(key)) known.set(key, { finding, operations: new Set() });
+      for (const operation of finding.operations) known.get(key).operations.add(operation);
+      return known.get(key).finding;
     });
   }
+  for (const { finding, operations } of known.values()) finding.operations = [...operations];
 }
 
 /** What graphql-js's other rules find, without what the proved check has said at the same place. */

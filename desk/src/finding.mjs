@@ -39,7 +39,7 @@ import { definitionName } from './names.mjs';
 /**
  * @param {import('./engine.mjs').Reply} reply
  * @param {{packed: import('./pack.mjs').Packed, unit: import('./project.mjs').Unit, project: import('./project.mjs').Project,
- *   mended: import('./pack.mjs').Mended, uses: (node: object) => number, wanted?: number, asked?: number, needed?: number,
+ *   mended: import('./pack.mjs').Mended, uses: (node: object) => number, budget?: number, asked?: number, needed?: number,
  *   unchecked?: boolean}} about
  * @returns {{finding: Finding, mend?: [object, string | true]}}  `mend`: what the packer takes as mended, to ask what else is wrong
  */

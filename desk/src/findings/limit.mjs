@@ -28,9 +28,9 @@ export function tooNested(_, about) {
   return aboutUnit(about, 'nests over 128 levels of fields', 'The levels are counted with all fragments written out. The check follows 128 of them.');
 }
 
-/** `asked` is the budget that the program was given; `needed` the one that is enough, where a second question found it. */
+/** `budget` is what was wanted, `asked` what the program was given, `needed` what is enough, where a second question found that. */
 export function budget(_, about) {
-  const room = about.wanted > about.asked ? ` For this query the program has room for no more than ${number(about.asked)} units.` : '';
+  const room = about.budget > about.asked ? ` For this query the program has room for no more than ${number(about.asked)} units.` : '';
   const made = aboutUnit(about, `was not checked to the end: its budget of ${number(about.asked)} units of work ran out`,
     `Nothing is known of what was left, so the query counts as refused.${room}`);
   if (about.needed === undefined) return made;
