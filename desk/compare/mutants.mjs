@@ -36,7 +36,7 @@ const MISTAKES = [
   ['fields of an interface never meet fields of an object', ['src/witness.mjs', 'return x === y || !isObjectType(x) || !isObjectType(y);', 'return x === y;']],
   ['of a variable that is defined twice the earlier place is shown first', ['src/findings/variable.mjs', "variablePlace(row, 'a second time', unit)",
     "variablePlace(earlier, 'a second time', unit)"]],
-  ['a name that is taken is proposed, and help is shown without a trial', ['src/findings/conflict.mjs', '!taken.has(name)', 'true'],
+  ['an edit is not what its help says, and is shown without a trial', ['src/findings/conflict.mjs', "text: isOwnName ? '' : `${name}: `", "text: ''"],
     ['src/mend.mjs', 'return kind === 0;', 'return true;']],
 ];
 
