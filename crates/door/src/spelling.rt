@@ -41,7 +41,7 @@ pub fn read_words(bytes: &[u8], words: &mut [u32], n: u32)
 }
 
 // The bytes of a word.
-#[derive(Drop)]
+#[derive(Clone, Copy)]
 pub struct Bytes {
     pub first: u8,
     pub second: u8,

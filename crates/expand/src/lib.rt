@@ -1,5 +1,6 @@
 // Expanding: from a queue of sets to the list of their fields. "A queue of sets; fields are listed in order under their set's
 // parent, inlines and each fragment the first time are queued." Every function is total; what the list is stands under `Good`.
+#![tactic(auto)]
 ghost use Rattle.std.specs.Prelude.{◌≡◌, [], ◌∷◌};
 ghost use Rattle.tables.specs.Columns.{set_selections, fragment_set};
 ghost use Rattle.expand.specs.ImageDocument.{up_from};
@@ -13,7 +14,7 @@ use tables::columns::{
 use tables::row_in;
 
 // Where an expansion's words are: a mark for each fragment, the queue of sets up to `end`, and the store of lists.
-#[derive(Drop)]
+#[derive(Clone, Copy)]
 pub struct Area {
     pub marks: u32,
     pub queue: u32,
@@ -22,7 +23,7 @@ pub struct Area {
 }
 
 // The sets in the queue, the place of the store where the list goes on, and the expansion's number.
-#[derive(Drop)]
+#[derive(Clone, Copy)]
 pub struct Expansion {
     pub queued: u32,
     pub listed: u32,

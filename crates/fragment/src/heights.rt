@@ -25,14 +25,14 @@ pub const MOST_LINKS: u32 = 500;
 
 pub const MOST_NESTED: u32 = 128;
 
-#[derive(Drop)]
+#[derive(Clone, Copy)]
 pub struct Height {
     pub chain: u32,
     pub links: u32,
     pub nested: u32,
 }
 
-#[derive(Drop)]
+#[derive(Clone, Copy)]
 struct Way {
     height: Height,
     lower: bool,

@@ -4,6 +4,7 @@
 // heights: the longest ways down from each set, in that order or by rounds.
 // rise: how far links rise in an order, so that few fragments are tested for a cycle.
 // rules: the kinds in their order.
+#![tactic(auto)]
 pub mod heights;
 mod order;
 mod rise;

@@ -5,14 +5,14 @@ use tables::columns::{selection_row, set_below, set_selections};
 use tables::{NONE, SETS, count, row_in};
 
 // A set that was not met before, or NONE, and the selection to look on from.
-#[derive(Drop)]
+#[derive(Clone, Copy)]
 struct Unmet {
     set: u32,
     next: u32,
 }
 
 // How many sets are under way, each led to by the one before, and how many have a place.
-#[derive(Drop)]
+#[derive(Clone, Copy)]
 struct Descent {
     under: u32,
     placed: u32,

@@ -27,7 +27,7 @@ use tables::columns::fragment_set;
 use tables::{FRAGMENTS, OPERATIONS, Range, SETS, count};
 
 // What is right of a document: all, or a reply's kind, its operation and its number a.
-#[derive(Drop)]
+#[derive(Clone, Copy)]
 pub enum Fragments {
     Good,
     Wrong(u32, u32, u32),

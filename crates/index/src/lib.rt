@@ -1,13 +1,14 @@
 // A search by key over lent words. For n keys, 3 × n words: the keys, then two links for each place, which make a tree of the
 // places. A search goes from place 0 down, each step by one more bit of the key, so that it passes at most 33 places, whatever
 // the keys are. Any words may be given.
+#![tactic(auto)]
 ghost use Rattle.std.specs.Prelude.{◌≡◌, true, ◌+◌, ◌*◌, ◌^◌, ◌≤◌, ◌<◌, leb, length};
 ghost use Rattle.index.specs.Indexed.{link_place, words_of, key_at, first_place, Apart, Linked, Indexed, Links, Firsts, Built};
 
 use lists::{clear, put};
 
 // Where the words begin, and how many keys there are.
-#[derive(Drop)]
+#[derive(Clone, Copy)]
 pub struct Index {
     pub at: usize,
     pub count: u32,

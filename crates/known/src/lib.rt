@@ -1,6 +1,7 @@
 // The lists of rows that a pass has met. Each is stored as its length and then its rows. The lists with the same key are chained,
 // the last one first. `forget` makes nothing known, `keep` adds the list that is stored behind the known ones, `is_known` says
 // whether that list is among them. What is found is said of any lists that are stored so; every function is total.
+#![tactic(auto)]
 ghost use Rattle.std.specs.Prelude.{◌≡◌, ◌≤◌, ◌<◌, ◌^◌};
 ghost use Rattle.known.specs.KnownLists.{bucket, slot_at, Finds, same_rows, is_list_at, kept_words, forgotten_words};
 
@@ -8,7 +9,7 @@ use lists::{Span, clear, get, in_region, put, span_length};
 
 // Where its words are: the last list of each key, from key 0 up to `keys`; for each place of the store the list before with the same
 // key; and the store.
-#[derive(Drop)]
+#[derive(Clone, Copy)]
 pub struct Registry {
     pub heads: u32,
     pub keys: u32,

@@ -1,10 +1,12 @@
 // Words in a lent slice: total reads and stores, and the loop that clears many.
 // No function has a `requires`: a place past the end reads as 0, and a store there does nothing.
+#![tactic(auto)]
+
 ghost use Rattle.std.specs.Prelude.{◌≡◌, ◌+◌, ◌-◌, min, max, length, get_or, set, replicate};
 ghost use Rattle.lists.specs.Part.{write};
 
 // Places from `start` up to `end`.
-#[derive(Drop)]
+#[derive(Clone, Copy)]
 pub struct Span {
     pub start: u32,
     pub end: u32,

@@ -28,6 +28,7 @@ entering_covers spread seen sets {u} t m = pick (decide (is_in u seen))
     pick (inl y) = inr (is_in→in u seen y)
     pick (inr f) = inl (in_filter (λ t. not (is_in t seen)) m f)
 entering_covers inline seen sets t m = inl m
+entering_covers field seen sets {u = u} t m = elim t [ ]
 
 from_marking : (k : Kind) (seen sets : List ℕ) {u : ℕ} → u ∈ marking k seen sets → (u ∈ entering k seen sets) ⊎ (u ∈ seen)
 unfolding marking
@@ -72,6 +73,7 @@ module _ (D : Document) where
       (entering_covers (D.kind_of r) seen (set_of D r) (subst (NoField D) e t) (subst (λ x. u ∈ set_of D x) e m))
   queued_covers seen (r ∷ rows) (there i) t m =
       one_row_earlier seen rows r (queued_covers (marking (D.kind_of r) seen (set_of D r)) rows i t m)
+  queued_covers seen [] {row = row} {u = u} x3 t m = elim x3 [ ]
 
   -- what is marked was marked before or is in the queue
   from_marked : (seen rows : List ℕ) {u : ℕ} → u ∈ marked D seen rows → (u ∈ queued D seen rows) ⊎ (u ∈ seen)

@@ -2,7 +2,7 @@
 use mathlib.Core.Path.{◌≡◌, refl, subst}
 use mathlib.Core.Logic.{◌⊎◌, inl, inr}
 use mathlib.Core.Bool.{Bool, true, false}
-use mathlib.Core.List.{List, ◌∷◌}
+use mathlib.Core.List.{List, [], ◌∷◌}
 use Prim.Native.Nat.{ℕ, ◌<◌}
 use lib.Dec.{T, eqb, ltb, eqb→eq, eqb_refl, ltb→lt, lt→ltb}
 use lib.ListN.{length}
@@ -46,6 +46,7 @@ is_listed→in e (f ∷ entries) t = pick (or_cases (same_entry e f) (is_listed 
     pick : T (same_entry e f) ⊎ T (is_listed e entries) → (T (is_listed e entries) → e ∈ entries) → e ∈ (f ∷ entries)
     pick (inl t) rest = here (same→eq e f t)
     pick (inr t) rest = there (rest t)
+is_listed→in e [] t = elim t [ ]
 
 pub in→is_listed : {e : Entry} {entries : List Entry} → e ∈ entries → T (is_listed e entries)
 unfolding is_listed

@@ -114,6 +114,7 @@ module _ (D : Document) where
   in_subgroups_by : (group parents : List ℕ) {q : ℕ} → q ∈ parents → subgroup_of group q ∈ subgroups_by D group parents
   unfolding subgroups_by
   in_subgroups_by group (p ∷ ps) m = in_map (subgroup_of group) m
+  in_subgroups_by group [] {q = q} m = elim m [ ]
 
   -- two fields of abstract parents stand together in every subgroup
   abstracts_together : (group parents : List ℕ) (a b : ℕ) → a ∈ abstracts D group → b ∈ abstracts D group

@@ -43,6 +43,7 @@ module _ (D : Document) where
     where
       member_rows : {row : ℕ} (rows : List ℕ) → row ∈ rows → T (has_rows rows)
       member_rows (r ∷ rows) i = tt
+      member_rows [] i = elim i [ ]
   within_rows (through w j f k) i = within_rows w j
 
   pub from_sets_below : (part : List ℕ) {s : ℕ} → s ∈ sets_below D part → (a : ℕ) × (a ∈ part) × (s ∈ set_of D a)

@@ -14,6 +14,7 @@ pub most_member : (f : ℕ → ℕ) {x : ℕ} (xs : List ℕ) → x ∈ xs → f
 unfolding most
 most_member f {x} (y ∷ xs) (here e) = let h : f x ≡ f y = ap f e in omega arith
 most_member f {x} (y ∷ xs) (there m) = let h : f x < most f xs = most_member f xs m in omega arith
+most_member f {x = x} [] x'' = elim x'' [ ]
 
 pub most_bound : (f : ℕ → ℕ) (n : ℕ) (xs : List ℕ) → ((x : ℕ) → x ∈ xs → f x < n) → most f xs ≤ n
 unfolding most

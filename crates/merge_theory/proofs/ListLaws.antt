@@ -26,9 +26,11 @@ or_of false c (inr t) = t
 
 pub and_of : (b c : Bool) → T b → T c → T (b && c)
 and_of true c t u = u
+and_of false c t u = elim t [ ]
 
 pub and_cases : (b c : Bool) → T (b && c) → T b × T c
 and_cases true c t = (tt, t)
+and_cases false c t = elim t [ ]
 
 -- ---- membership
 
@@ -67,6 +69,7 @@ in_map f (there m) = there (in_map f m)
 pub from_map : {A B : Type 0} (f : A → B) {b : B} (xs : List A) → b ∈ map f xs → (a : A) × (a ∈ xs) × (b ≡ f a)
 from_map f (x ∷ xs) (here e) = (x, head_in, e)
 from_map f (x ∷ xs) (there m) = let (a, i, e) = from_map f xs m in (a, there i, e)
+from_map {A = A} {B = B} f {b = b} [] x' = elim x' [ ]
 
 -- ---- `flat_map`
 
@@ -88,6 +91,7 @@ from_flat_map {A} f {b} (x ∷ xs) m = pick (in_append (f x) m) (λ m. from_flat
 
 keep_head : {A : Type 0} {a x : A} (xs : List A) (b : Bool) → T b → a ≡ x → a ∈ keep b x xs
 keep_head xs true t e = here e
+keep_head {A = A} {a = a} xs false t e = elim t [ ]
 
 keep_tail : {A : Type 0} {a : A} {xs : List A} (x : A) (b : Bool) → a ∈ xs → a ∈ keep b x xs
 keep_tail x true m = there m
@@ -132,6 +136,7 @@ is_in→in a (x ∷ xs) t = pick (or_cases (eqb a x) (is_in a xs) t) (λ t. is_i
     pick : T (eqb a x) ⊎ T (is_in a xs) → (T (is_in a xs) → a ∈ xs) → a ∈ (x ∷ xs)
     pick (inl t) rest = here (eqb→eq a x t)
     pick (inr t) rest = there (rest t)
+is_in→in a [] t = elim t [ ]
 
 same_list→eq : (xs ys : List ℕ) → T (same_list xs ys) → xs ≡ ys
 unfolding same_list
@@ -139,6 +144,8 @@ same_list→eq [] [] t = refl
 same_list→eq (x ∷ xs) (y ∷ ys) t =
     let (t₁, t₂) = and_cases (eqb x y) (same_list xs ys) t in
     λ i. eqb→eq x y t₁ i ∷ same_list→eq xs ys t₂ i
+same_list→eq [] (y ∷ ys) t = elim t [ ]
+same_list→eq (x ∷ xs) [] t = elim t [ ]
 
 pub is_known→in : (l : List ℕ) (ks : List (List ℕ)) → T (is_known l ks) → l ∈ ks
 unfolding is_known
@@ -147,6 +154,7 @@ is_known→in l (k ∷ ks) t = pick (or_cases (same_list l k) (is_known l ks) t)
     pick : T (same_list l k) ⊎ T (is_known l ks) → (T (is_known l ks) → l ∈ ks) → l ∈ (k ∷ ks)
     pick (inl t) rest = here (same_list→eq l k t)
     pick (inr t) rest = there (rest t)
+is_known→in l [] t = elim t [ ]
 
 pub in→is_in : {a : ℕ} {xs : List ℕ} → a ∈ xs → T (is_in a xs)
 unfolding is_in

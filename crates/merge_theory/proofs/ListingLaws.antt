@@ -62,6 +62,9 @@ module _ (D : Document) (room budget : ℕ) (operations : List ℕ) (used : ℕ)
         where
           listed : (x : Result) → NothingListed x → (state_of x).entries ≡ f ∷ more → ⊥
           listed (finished y) h q = not_in_front q h
+          listed (out _) h q = elim h [ ]
+          listed (deep _) h q = elim h [ ]
+          listed (conflict _ _) h q = elim h [ ]
       go r r' (at_out x less f) e = absurd (omega arith)
 
   -- a listing stops at a conflict only where there is no room

@@ -37,6 +37,7 @@ from_silent false c next s = absurd s
 silent_unless : (b : Bool) (c : Cause) (next : Option Cause) → T b → Silent next → Silent (unless b c next)
 unfolding unless
 silent_unless true c next t s = s
+silent_unless false c next t s = elim t [ ]
 
 told_unless : (Bad : Cause → Type 0) (b : Bool) (c : Cause) (next : Option Cause) → (T (not b) → Bad c) → Told Bad next
     → Told Bad (unless b c next)

@@ -155,6 +155,7 @@ bears_charge cost = record {
 
     free : (z : State) (b : Bool) → T b → ¬ Stopped (charge_if b cost z)
     free z true t h = h
+    free z false t h = elim t [ ]
 
 pub bears_list : (e : Entry) → Bears (λ n. list n.room e)
 unfolding list list_if
@@ -186,6 +187,7 @@ bears_list e = record {
     free : (z : State) (o r : Bool) → T r → ¬ Stopped (list_if o r e z)
     free z true r t h = h
     free z false true t h = h
+    free z false false t h = elim t [ ]
 
 bears_enter : (fields : List ℕ) (walked : Size → Step) → Bears walked → (isOld : Bool) → Bears (λ n. enter fields (walked n) isOld)
 unfolding enter note
@@ -268,3 +270,7 @@ module _ (step : Found → ℕ → Step) (B : Bears (λ n. step (list n.room) n.
       go : (n : Size) {r r' : Result} → Prolongs (checking n.budget) n r r' → ¬ Stopped r' → ¬ IsOut r
       go n (same (out z)) h isOut = h tt
       go n (at_out r more f) h isOut = omega arith
+      go n {r = finished _} (same _) h isOut = elim isOut [ ]
+      go n {r = deep _} (same _) h isOut = elim isOut [ ]
+      go n {r = conflict _ _} (same _) h isOut = elim isOut [ ]
+      go n (at_full _ _ _) h isOut = elim isOut [ ]

@@ -60,7 +60,10 @@ module _ (D : Document) (budget used s : ℕ) (c : Cause) (a b : ℕ) (z : State
   pub conflict_first : NamedInCheck D s c a b
   conflict_first = of_entry (conflict_own D budget used s (entry s c a b) z stopped)
     where
-      of_entry : NamedEntry D s (entry s c a b) → NamedInCheck D s c a b
+      Names : Entry → Type 0
+      Names (entry t d i j) = NamedInCheck D s d i j
+
+      of_entry : {e : Entry} → NamedEntry D s e → Names e
       of_entry (named_entry h) = h
 
   -- T1. A conflict that the check names is a true conflict.

@@ -1,4 +1,5 @@
 // Checks the image on standard input with a budget of 1000, as the door does, and prints the reply: five numbers in decimal.
+#![tactic(auto)]
 use door::check_query;
 use door::spelling::read_words;
 

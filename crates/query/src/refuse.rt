@@ -10,7 +10,7 @@ use selection::arena::MOST_WORK;
 use tables::header::{Header, check_header};
 
 // What the check refuses before it looks at a row: nothing, or a kind and the number that it shows.
-#[derive(Drop)]
+#[derive(Clone, Copy)]
 pub enum Refused {
     Not,
     By(u32, u32),

@@ -3,6 +3,7 @@
 // lookup). A check prints `kind operation a b used kept`, kept being 1 where the scratch is afterwards as promised; a lookup prints
 // the length of its part and then its words. A case that asks for more than there is room for prints `limit` and ends the run;
 // one that the input cuts off ends it too.
+#![tactic(auto)]
 use door::spelling::read_words;
 use lists::{get, put};
 use query::check::check;
@@ -20,7 +21,7 @@ const MOST_SCRATCH: usize = 262144;
 const MOST_CASES: u32 = 4294967295;
 
 // The four words before a case's image, or that the input is over. `given` is the budget of a check, the set of a lookup.
-#[derive(Drop)]
+#[derive(Clone, Copy)]
 struct Case {
     is_there: bool,
     form: u32,

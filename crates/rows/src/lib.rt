@@ -1,6 +1,7 @@
 // Kind 4: the row rules, table by table, lowest row first, each table in one pass; then what is left unclaimed. The check of a
 // table may take for granted that all lower tables are good, since the first fault ends the check.
 // plain_rows: the tables whose rows are judged one by one. selections: table 5. value_rows: table 7.
+#![tactic(auto)]
 ghost use Rattle.std.specs.Prelude.{◌≡◌};
 ghost use Rattle.lists.specs.First.{first_fault};
 ghost use Rattle.rows.specs.RowFault.{rows_show, broken_row, unclaimed_fault, row_fault, image_fault, GoodBelow};
@@ -19,7 +20,7 @@ mod selections;
 mod value_rows;
 
 // What is right of an image: all; or its header is wrong at a word, so that it has no rows; or the first wrong row's table and number.
-#[derive(Drop)]
+#[derive(Clone, Copy)]
 pub enum Rows {
     Good,
     BadHeader(u32),

@@ -19,7 +19,7 @@ use tables::{
 const MOST_ARGUMENTS: u32 = 64;
 
 // Where the pass stands: the next row, and the number of the next set that a selection owns.
-#[derive(Drop)]
+#[derive(Clone, Copy)]
 pub(crate) struct Owning {
     pub(crate) row: u32,
     pub(crate) next: u32,

@@ -16,7 +16,7 @@ const MOST_MEMBERS: u32 = 256;
 const DEEPEST_LEVEL: u32 = 64;
 
 // Where the pass stands: at the first wrong row, and the next row that the rows before it leave unclaimed.
-#[derive(Drop)]
+#[derive(Clone, Copy)]
 pub(crate) struct Claims {
     pub row: u32,
     pub unclaimed: u32,

@@ -13,7 +13,7 @@ pub const MOST_WORK: u32 = 1000000;
 // Where each region begins. The parent type of each selection's set stands from word 0 on; then, for each selection, the class of
 // its name, and that of its name and parent; the mark of each fragment; the queue of sets; the last place of each class; the last
 // known list of each key; for each place of the store the known list before, then four words of links; and the store of lists.
-#[derive(Drop)]
+#[derive(Clone, Copy)]
 pub struct Arena {
     pub names: u32,
     pub pairs: u32,
@@ -26,7 +26,7 @@ pub struct Arena {
     pub store: u32,
 }
 
-#[derive(Drop)]
+#[derive(Clone, Copy)]
 pub struct Reply {
     pub kind: u32,
     pub operation: u32,
@@ -36,7 +36,7 @@ pub struct Reply {
 }
 
 // The reply so far, the words of the store that known lists take, and the number of the last expansion.
-#[derive(Drop)]
+#[derive(Clone, Copy)]
 pub struct Walk {
     pub reply: Reply,
     pub known: u32,

@@ -11,7 +11,7 @@ use lists::{Span, get, in_region};
 use tables::columns::{OBJECT, response_name, type_kind};
 
 // Fields of one name: all of them, those of one parent, or those whose parent is no object.
-#[derive(Drop)]
+#[derive(Clone, Copy)]
 pub struct Segment {
     pub name: u32,
     pub kind: u32,
@@ -34,7 +34,7 @@ const NEXT_OF_PARENT: u32 = 2;
 const FIRST_OF_PARENT: u32 = 3;
 
 // What is compared, and whose sets are merged: the fields of a segment from a first one on, then those of another.
-#[derive(Drop)]
+#[derive(Clone, Copy)]
 pub struct Part {
     pub list: Span,
     pub first: u32,
@@ -44,7 +44,7 @@ pub struct Part {
 }
 
 // A subgroup: the places of its group's first field, of its own, and of the group's first field whose parent is no object.
-#[derive(Drop)]
+#[derive(Clone, Copy)]
 pub struct Cursor {
     pub group: u32,
     pub first: u32,

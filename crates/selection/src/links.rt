@@ -7,7 +7,7 @@ use lists::{Span, get, in_region, put};
 
 // Where the words of one kind of links stand: the class of each row, the last place of each class, two words of links for each
 // place (four words apart), and the store of rows.
-#[derive(Drop)]
+#[derive(Clone, Copy)]
 pub struct Chain {
     pub classes: u32,
     pub lasts: u32,

@@ -23,7 +23,7 @@ use values::shape::same_output_type_shape;
 const LEVELS: u32 = 502;
 
 // What has been met: the list, and whether it is new and paid, so that the walk goes deeper into it.
-#[derive(Drop)]
+#[derive(Clone, Copy)]
 pub struct Met {
     pub walk: Walk,
     pub list: Span,

@@ -8,7 +8,7 @@ use mathlib.Core.Option.{Option, none, some}
 use native.Mathlib.Nat.{add-mul, mul-le-mul_right, add-sub_cancel_left, sub_self}
 use native.Mathlib.Omega.{arith}
 use borrow.Author.Tests.{lt-ltb, le-ltb, leb-true}
-use borrow.Rule.Slice.PartAt.{sl_part}
+use borrow.Rule.Slice.PartAt.{sl_partˢ}
 use borrow.Rule.Slice.Shared.{by_size}
 use denote.Ref.{Bor}
 use lib.Dec.{ltb, leb}
@@ -84,8 +84,8 @@ place_inside image set start words at = go (header_fault image) (ltb set (count_
     go (some a) is_set few good t e = never e
 
 -- what the code returns is the part of the slice at the place
-pub part_at : (whole : Bor (List ℕ)) {place : Place} {start words name : ℕ} → place ≡ At start words → PartOf whole place (sl_part whole (by_size 4 start whole.ref_ptr.1) start (start + words) name)
+pub part_at : (whole : Bor (List ℕ)) {place : Place} {start words : ℕ} → place ≡ At start words → PartOf whole place (sl_partˢ whole (by_size 4 start whole.ref_ptr.1) start (start + words))
 part_at whole {start} {words} this = rw this (record { holds = rw add-sub_cancel_left; block = refl; lies = omega arith })
 
-pub part_nowhere : (whole : Bor (List ℕ)) {place : Place} {name : ℕ} → place ≡ Nowhere → PartOf whole place (sl_part whole (by_size 4 (length whole.now) whole.ref_ptr.1) (length whole.now) (length whole.now) name)
+pub part_nowhere : (whole : Bor (List ℕ)) {place : Place} → place ≡ Nowhere → PartOf whole place (sl_partˢ whole (by_size 4 (length whole.now) whole.ref_ptr.1) (length whole.now) (length whole.now))
 part_nowhere whole this = rw this (record { holds = rw sub_self; block = refl; lies = omega arith })

@@ -11,14 +11,14 @@ use crate::{
 };
 
 // A row of table 4.
-#[derive(Drop)]
+#[derive(Clone, Copy)]
 pub struct Set {
     pub parent: u32,
     pub selections: Range,
 }
 
 // A row of table 5: `response` and `name` are the response name and the field name.
-#[derive(Drop)]
+#[derive(Clone, Copy)]
 pub struct Selection {
     pub kind: u32,
     pub response: u32,

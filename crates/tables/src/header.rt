@@ -10,7 +10,7 @@ use crate::{count, header_words, most_rows, offset, row_width, span, table_count
 const NEWEST_EDITION: u32 = 1;
 
 // What is right of a header: all, or the first wrong word is the one given.
-#[derive(Drop)]
+#[derive(Clone, Copy)]
 pub enum Header {
     Good,
     Wrong(u32),

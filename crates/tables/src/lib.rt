@@ -2,6 +2,8 @@
 // public function has a `requires`, and each contract is an equation with a definition of specs/, for every image.
 // header: kind 1. columns: the cells by name. keys: names of arguments, keys of members. lookup: the selections of one set. The
 // rules of the rows (kind 4) have a crate of their own, `rows`; what they promise of an image is `Good`.
+#![tactic(auto)]
+
 ghost use Rattle.std.specs.Prelude.{◌≡◌, ◌*◌, ◌^◌, ◌<◌};
 ghost use Rattle.tables.specs.Layout.{table_count, header_words, row_width, most_rows};
 ghost use Rattle.tables.specs.Image.{word_at, count_at, offset_at, cell_at, row_in, lies_within};
@@ -106,7 +108,7 @@ pub fn cell(image: &[u32], table: u8, row: u32, column: u8) -> u32
 }
 
 // `count` rows of a table from row `first` on, as the image's words say.
-#[derive(Drop)]
+#[derive(Clone, Copy)]
 pub struct Range {
     pub first: u32,
     pub count: u32,

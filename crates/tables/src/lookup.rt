@@ -7,7 +7,7 @@ use crate::header::{Header, check_header};
 use crate::{Range, SELECTIONS, SETS, count, lies_within, offset, row_width, span, word};
 
 // Where a part of the image stands: its first word and how many words, or nowhere.
-#[derive(Drop)]
+#[derive(Clone, Copy)]
 pub enum Place {
     At(usize, usize),
     Nowhere,

@@ -5,7 +5,7 @@ ghost use Rattle.values.specs.Shape.{both_wrappers, same_named, same_shape};
 use tables::columns::{reference_child, reference_kind, type_kind};
 
 // Two references side by side: unlike in wrapper or nullability, two names, or two lists.
-#[derive(Drop)]
+#[derive(Clone, Copy)]
 enum Wrappers {
     Unlike,
     Names,

@@ -13,7 +13,7 @@ use tables::columns::{VARIABLE, operation_variables, value_atom, value_kind};
 use tables::{ARGUMENTS, Range, SETS, VALUES, VARIABLES, count, row_in};
 
 // What is right of an operation's variables: all, or a reply kind and the row that it shows.
-#[derive(Drop)]
+#[derive(Clone, Copy)]
 pub enum Usage {
     Good,
     Wrong(u32, u32),

@@ -1,0 +1,13 @@
+-- `keys::find_key` meets its contract. The loop's invariant: no row passed has the key. Assumes nothing.
+use Prim.Native.Nat.{ℕ, ◌-◌, ◌<◌, ◌≤◌}
+use mathlib.Core.Path.{◌≡◌}
+use lib.Dec.{eqb}
+use mathlib.Core.Bool.{false}
+use Rattle.tables.specs.Keys.{key_in}
+use Rattle.tables.proofs.keys.find_key.Given as goal
+
+abbrev pub invariant-loop-i : goal.invariant-loop-i
+invariant-loop-i l = (l.i ≤ l.rows_count) × ((k : ℕ) → k < l.i → eqb (key_in l.image l.table l.rows k) l.key ≡ false)
+
+abbrev pub decreases-loop-i : goal.decreases-loop-i
+decreases-loop-i l = l.rows_count - l.i
