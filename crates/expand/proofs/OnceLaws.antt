@@ -63,6 +63,7 @@ keep_longer false x xs = omega arith
 
 kept : (b : Bool) (x : ℕ) (xs : List ℕ) → T b → length (keep b x xs) ≡ suc (length xs)
 kept true x xs h = refl
+kept false x xs h = elim h [ ]
 
 -- n is no member: none is left out
 all_others : (n : ℕ) (xs : List ℕ) → (n ∈ xs → ⊥) → length (others n xs) ≡ length xs

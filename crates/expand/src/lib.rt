@@ -1,6 +1,7 @@
 // Expanding: from a queue of sets to the list of their fields. "A queue of sets; fields are listed in order under their set's
 // parent, inlines and each fragment the first time are queued." Every function is total; what the list is stands under `Good`.
 #![tactic(auto)]
+
 ghost use Rattle.std.specs.Prelude.{◌≡◌, [], ◌∷◌};
 ghost use Rattle.tables.specs.Columns.{set_selections, fragment_set};
 ghost use Rattle.expand.specs.ImageDocument.{up_from};

@@ -2,6 +2,7 @@
 // places. A search goes from place 0 down, each step by one more bit of the key, so that it passes at most 33 places, whatever
 // the keys are. Any words may be given.
 #![tactic(auto)]
+
 ghost use Rattle.std.specs.Prelude.{◌≡◌, true, ◌+◌, ◌*◌, ◌^◌, ◌≤◌, ◌<◌, leb, length};
 ghost use Rattle.index.specs.Indexed.{link_place, words_of, key_at, first_place, Apart, Linked, Indexed, Links, Firsts, Built};
 

@@ -2,6 +2,7 @@
 // the last one first. `forget` makes nothing known, `keep` adds the list that is stored behind the known ones, `is_known` says
 // whether that list is among them. What is found is said of any lists that are stored so; every function is total.
 #![tactic(auto)]
+
 ghost use Rattle.std.specs.Prelude.{◌≡◌, ◌≤◌, ◌<◌, ◌^◌};
 ghost use Rattle.known.specs.KnownLists.{bucket, slot_at, Finds, same_rows, is_list_at, kept_words, forgotten_words};
 

@@ -1,6 +1,7 @@
 // The sets that some sets reach, each once. The lent words: a mark for each set, then the queue of sets; twice as many as there
 // are sets. What they held before changes nothing.
 #![tactic(auto)]
+
 ghost use Rattle.std.specs.Prelude.{◌≡◌, ◌+◌, eqb, get_or};
 ghost use Rattle.tables.specs.Layout.{sets, operations};
 ghost use Rattle.tables.specs.Image.{count_at};

@@ -1,0 +1,21 @@
+-- `expand::expand_selections` meets its contract. The loop's invariant: so many sets have left the queue. A word counts them, so it ends.
+-- Assumes nothing.
+use native.Mathlib.Omega.{arith}
+use Prim.Native.Nat.{◌-◌}
+use Rattle.expand.proofs.ExpandWalk.{underway_first, underway_turn, underway_end}
+use Rattle.expand.proofs.expand_selections.Goals as goal
+
+pub loop-walked-init : goal.loop-walked-init
+loop-walked-init c = underway_first _ _
+
+pub loop-walked-preserved : goal.loop-walked-preserved
+loop-walked-preserved c =
+    let read = c in
+    let at = read in
+    underway_turn at.loop-walked.invariant (omega arith) read.in_region.ensures read.get-set.ensures c.expand_set-next.ensures
+
+pub shape_of-s : goal.shape_of-s
+shape_of-s c = c.loop-walked.invariant.long
+
+pub returns : goal.returns
+returns c = underway_end c.loop-walked.invariant (omega arith)
