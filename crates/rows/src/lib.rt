@@ -2,6 +2,7 @@
 // table may take for granted that all lower tables are good, since the first fault ends the check.
 // plain_rows: the tables whose rows are judged one by one. selections: table 5. value_rows: table 7.
 #![tactic(auto)]
+
 ghost use Rattle.std.specs.Prelude.{◌≡◌};
 ghost use Rattle.lists.specs.First.{first_fault};
 ghost use Rattle.rows.specs.RowFault.{rows_show, broken_row, unclaimed_fault, row_fault, image_fault, GoodBelow};

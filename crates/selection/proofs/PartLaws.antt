@@ -9,7 +9,7 @@ use native.Mathlib.Decide.{ℕ_discrete}
 use native.Mathlib.Omega.{arith}
 use lib.Dec.{eqb}
 use lib.ListN.{length, take, drop, get_or, take-append-drop}
-use borrow.Author.Tests.{not_true, eq-eqb, ne_eqb, eqb-true, lt-ltb, le-ltb}
+use borrow.Author.Tests.{not-true, eq-eqb, ne_eqb, eqb-true, lt-ltb, le-ltb}
 use Rattle.lists.proofs.Parts.{le_or_lt}
 use Rattle.lists.proofs.Tests.{both, first_of, second_of}
 use Rattle.merge_theory.specs.Lists.{flat_map, filter, keep, is_in}
@@ -367,7 +367,7 @@ module _ {D : Document} {image s : List ℕ} {store : ℕ} {x : Span} {l : List 
   -- no field before the first of a group is of the group
   none_of_group : (g : ℕ) → appears D.name_of all (before x l g) (row_in s store g) ≡ true → filter (concrete D (D.name_of (row_in s store g))) (before x l g) ≡ []
   unfolding appears
-  none_of_group g opens = none_named D (D.name_of (row_in s store g)) (before x l g) (not_true _ opens)
+  none_of_group g opens = none_named D (D.name_of (row_in s store g)) (before x l g) (not-true _ opens)
 
   -- in a group, the object parents in order are those that appear from its first field on
   parents_from : (g : ℕ) → appears D.name_of all (before x l g) (row_in s store g) ≡ true

@@ -3,7 +3,7 @@
 use Prim.Native.Nat.{ℕ, ◌<◌}
 use mathlib.Core.Path.{◌≡◌, refl, sym, ap, ◌∙◌, subst}
 use mathlib.Core.Bool.{Bool, true, ◌&&◌}
-use borrow.Author.Tests.{eq-eqb, eqb-true, eqb-false, not_true}
+use borrow.Author.Tests.{eq-eqb, eqb-true, eqb-false, not-true}
 use lib.Arith.{lt_of_le-ne}
 use lib.Dec.{eqb}
 use native.Mathlib.Omega.{arith}
@@ -23,7 +23,7 @@ module _ (key : ℕ → ℕ) (rows : Range) (wanted : ℕ) where
   -- a key that is there is found
   pub has_place : has_key key rows wanted ≡ true → place_of key rows wanted < rows.count
   unfolding has_key absent
-  has_place e = lt_of_le-ne (position_le _ (λ k. eqb (key (row_in rows k)) wanted)) (eqb-false _ _ (not_true _ e))
+  has_place e = lt_of_le-ne (position_le _ (λ k. eqb (key (row_in rows k)) wanted)) (eqb-false _ _ (not-true _ e))
 
   pub place_has : place_of key rows wanted < rows.count → has_key key rows wanted ≡ true
   place_has l = some_key key rows wanted (λ e. omega arith)

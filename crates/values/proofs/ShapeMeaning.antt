@@ -103,6 +103,16 @@ module _ (image : List ℕ) where
       lists_shape _ _ c d 3 (omega arith) (omega arith) k m (omega arith) (types_shape good (omega arith) a b s)
   types_shape good known (a_non_null_name k c) (a_non_null_list m d b) (non_nulls s) = let unlike : ◌≡◌ {A = ℕ} 0 1 = one_form s in absurd (omega arith)
   types_shape good known (a_non_null_list k c a) (a_non_null_name m d) (non_nulls s) = let unlike : ◌≡◌ {A = ℕ} 1 0 = one_form s in absurd (omega arith)
+  types_shape good known (a_non_null_name {r = r} {child = child} k c) (a_name m d) s = elim s [ ]
+  types_shape good known (a_non_null_name {r = r} {child = child} k c) (a_list {t = t} m d b) s = elim s [ ]
+  types_shape good known (a_non_null_list {r = r} {child = child} {t = t} k c a) (a_name m d) s = elim s [ ]
+  types_shape good known (a_non_null_list {r = r} {child = child} {t = t} k c a) (a_list m d b) s = elim s [ ]
+  types_shape good known (a_name {r = r} {child = child} k c) (a_non_null_name m d) s = elim s [ ]
+  types_shape good known (a_name {r = r} {child = child} k c) (a_non_null_list {t = t} m d b) s = elim s [ ]
+  types_shape good known (a_name {r = r} {child = child} k c) (a_list {t = t} m d b) s = elim s [ ]
+  types_shape good known (a_list {r = r} {child = child} {t = t} k c a) (a_non_null_name m d) s = elim s [ ]
+  types_shape good known (a_list {r = r} {child = child} {t = t} k c a) (a_non_null_list m d b) s = elim s [ ]
+  types_shape good known (a_list {r = r} {child = child} {t = t} k c a) (a_name m d) s = elim s [ ]
 
   -- exactly if
   pub shape_decides : Good image → {l r : ℕ} {s t : Ty} → l < count_at image references → StandsFor image l s → StandsFor image r t

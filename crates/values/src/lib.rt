@@ -1,6 +1,7 @@
 // Comparisons of two fields' parts: values and arguments here, output types in `shape`. Every read is total, and a level falls
 // with each step down, so a malformed image is compared too. Each contract is an equation with a definition of specs/.
 #![tactic(auto)]
+
 ghost use Rattle.std.specs.Prelude.{◌≡◌};
 ghost use Rattle.tables.specs.Keys.{key_of};
 ghost use Rattle.values.specs.Same.{same_value, same_list, same_set, keys_within, same_arguments};

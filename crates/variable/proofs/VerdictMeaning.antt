@@ -10,7 +10,7 @@ use native.Mathlib.Decide.{ℕ_discrete}
 use native.Mathlib.Omega.{arith}
 use lib.Dec.{eqb, leb, ltb}
 use lib.ListN.{get_or}
-use borrow.Author.Tests.{lt-ltb, le-ltb, le-leb, lt-leb, eq-eqb, ne_eqb, eqb-true, eqb-false, not_false}
+use borrow.Author.Tests.{lt-ltb, le-ltb, le-leb, lt-leb, eq-eqb, ne_eqb, eqb-true, eqb-false, not-false}
 use Rattle.lists.specs.First.{expect, ◌▷◌}
 use Rattle.lists.specs.Every.{position}
 use Rattle.lists.proofs.EveryLaws.{position_passes, position_below, before_position}
@@ -94,7 +94,7 @@ module _ (image : List ℕ) (good : Good image) (i : ℕ) (known : i < count_at 
   an_input : (v : ℕ) → v < count_at image variables → is_output image v ≡ false → IsInput image v
   an_input v h e =
       let (t, stands) = a_type image good (variable_type image v) (good.variable v h).reference in
-      record { type = t; stands = stands; input = not_false _ (sym (output_means image good v h stands) ∙ e) }
+      record { type = t; stands = stands; input = not-false _ (sym (output_means image good v h stands) ∙ e) }
 
   no_input : (v : ℕ) → v < count_at image variables → is_output image v ≡ true → IsInput image v → ⊥
   no_input v h e is = false≢true (sym (ap not is.input) ∙ sym (output_means image good v h is.stands) ∙ e)
@@ -158,7 +158,7 @@ module _ (image : List ℕ) (good : Good image) (i : ℕ) (known : i < count_at 
   eleven_found less =
       search_found own small (is_repeated image own) (Repeats image i) (λ r b. b.defined)
       (λ k l e. repeats_at k l (eqb-false _ _ (bool_not _ e)))
-      (λ k l e b. first_at_lem k l (eqb-true _ _ (not_false _ e)) b)
+      (λ k l e b. first_at_lem k l (eqb-true _ _ (not-false _ e)) b)
       less
 
   -- each variable is the first of its name
@@ -167,7 +167,7 @@ module _ (image : List ℕ) (good : Good image) (i : ℕ) (known : i < count_at 
 
   eleven_none : (operation_variables image i).count ≤ first_repeated image own → OwnFirst
   unfolding first_repeated
-  eleven_none past k l = eqb-true _ _ (not_false _ (search_none _ (is_repeated image own) past k l))
+  eleven_none past k l = eqb-true _ _ (not-false _ (search_none _ (is_repeated image own) past k l))
 
   unique : OwnFirst → AreUnique image i
   unique first u v du dv e =
@@ -282,7 +282,7 @@ module _ (image : List ℕ) (good : Good image) (i : ℕ) (known : i < count_at 
     test_passes a e v u =
         let less = argument_known image good i known own a u.used in
         let far = of_covers _ a (argument_covered image good i known own a u.used) in
-        let yes : cond (ltb a (furthest end_at (suc a))) (argument_allowed image own a) true ≡ true = not_false _ e in
+        let yes : cond (ltb a (furthest end_at (suc a))) (argument_allowed image own a) true ≡ true = not-false _ e in
         allowed_usage a less (rw (lt-ltb _ _ far) at yes) v u
 
     thirteen_found : first_misused image own end_at < count_at image arguments → Lowest (Misused image i) (first_misused image own end_at)

@@ -1,0 +1,38 @@
+-- `value_rows::are_list_keys_good` meets its contract. The loop's invariant: each row passed has key NONE. Assumes nothing.
+use borrow.Author.Tests.{eq-eqb, ne_eqb}
+use mathlib.Core.Bool.{true}
+use native.Mathlib.Omega.{arith}
+use mathlib.Core.Path.{◌≡◌, sym, ap, ◌∙◌}
+use borrow.Author.Count.{below_none, below_more}
+use Prim.Native.Nat.{◌-◌}
+use Rattle.lists.proofs.EveryLaws.{every_intro, every_fails}
+use Rattle.tables.specs.Layout.{values}
+use Rattle.rows.specs.Values.{good_list_keys}
+use Rattle.tables.specs.Keys.{key_of, key_in}
+use Rattle.rows.proofs.value_rows.are_list_keys_good.Goals as goal
+
+-- what a turn reads
+key-read : (c : goal.After-key_of)
+    → let a = c.args in
+    c.key_of.result ≡ key_in a.image.now values a.rows c.loop-i.i
+key-read c =
+    let a = c.args in
+    c.key_of.ensures ∙ ap (key_of a.image.now values) c.row_in.ensures
+
+pub loop-i-init : goal.loop-i-init
+loop-i-init c = (omega arith, below_none _)
+
+pub returns-then-key_of : goal.returns-then-key_of
+unfolding good_list_keys
+returns-then-key_of c =
+    let at = c in
+    sym (every_fails _ _ at.loop-i.i (omega arith) (ne_eqb _ _ (λ e. c.if-key_of.true (key-read c ∙ e))))
+
+pub loop-i-preserved : goal.loop-i-preserved
+loop-i-preserved c =
+    let at = c in
+    (omega arith, below_more _ at.loop-i.i at.loop-i.invariant.1 (eq-eqb _ _ (sym (key-read c) ∙ c.if-key_of.false)))
+
+pub returns : goal.returns
+unfolding good_list_keys
+returns c = sym (every_intro _ _ (λ k l. c.loop-i.invariant.1 k (omega arith)))
