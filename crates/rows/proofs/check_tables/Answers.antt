@@ -5,7 +5,7 @@ use Rattle.rows.proofs.RowPass.{passed_good, good_tables, good_more, breaks, low
 use Rattle.rows.proofs.check_tables.Goals as goal
 
 pub returns-in_default : goal.returns-in_default
-returns-in_default c = lower_breaks _ 5 c.check_lower-lower.result (omega arith) (λ e. ⊎_elim (λ h. omega arith) (λ h. omega arith) (rw e at c.in-Good.keys2)) c.check_lower-lower.ensures
+returns-in_default c = lower_breaks _ 5 c.check_lower-lower.result (omega arith) c.in_default.not-Good c.check_lower-lower.ensures
 
 pub check_selections-selections-requires : goal.check_selections-selections-requires
 check_selections-selections-requires c = passed_good _ 5 c.requires.header (shows_no_fault _ c.in-Good.is c.check_lower-lower.ensures)

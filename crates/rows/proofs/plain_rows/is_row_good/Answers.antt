@@ -59,6 +59,6 @@ pub returns-in_default : goal.returns-in_default
 unfolding row_rule
 returns-in_default c =
     let a = c.args in
-    let r = c.in-0.rest in
+    let r = c.in_default.in_default-own.rest in
     let t : a.table ≡ 8 = last_plain _ c.requires r.0.0.0.0.0.1 r.0.0.0.0.1 r.0.0.0.1 r.0.0.1 r.0.1 r.1 in
     rule_at a.image.now a.table 8 a.row t c.is_variable_good.ensures

@@ -11,27 +11,17 @@ use Rattle.rows.specs.Values.{good_list_keys}
 use Rattle.tables.specs.Keys.{key_of, key_in}
 use Rattle.rows.proofs.value_rows.are_list_keys_good.Goals as goal
 
--- what a turn reads
-key-read : (c : goal.After-key_of)
-    → let a = c.args in
-    c.key_of.result ≡ key_in a.image.now values a.rows c.loop-i.i
-key-read c =
-    let a = c.args in
-    c.key_of.ensures ∙ ap (key_of a.image.now values) c.row_in.ensures
-
 pub loop-i-init : goal.loop-i-init
 loop-i-init c = (omega arith, below_none _)
 
 pub returns-then-key_of : goal.returns-then-key_of
 unfolding good_list_keys
 returns-then-key_of c =
-    let at = c in
-    sym (every_fails _ _ at.loop-i.i (omega arith) (ne_eqb _ _ (λ e. c.if-key_of.true (key-read c ∙ e))))
+    sym (every_fails _ _ c.loop-i.i (omega arith) (ne_eqb _ _ (λ e. c.if-key_of.true ((c.key_of.ensures ∙ ap (key_of c.args.image.now values) c.row_in.ensures) ∙ e))))
 
 pub loop-i-preserved : goal.loop-i-preserved
 loop-i-preserved c =
-    let at = c in
-    (omega arith, below_more _ at.loop-i.i at.loop-i.invariant.1 (eq-eqb _ _ (sym (key-read c) ∙ c.if-key_of.false)))
+    (omega arith, below_more _ c.loop-i.i c.loop-i.invariant.1 (eq-eqb _ _ (sym (c.key_of.ensures ∙ ap (key_of c.args.image.now values) c.row_in.ensures) ∙ c.if-key_of.false)))
 
 pub returns : goal.returns
 unfolding good_list_keys
