@@ -5,6 +5,7 @@
 // rise: how far links rise in an order, so that few fragments are tested for a cycle.
 // rules: the kinds in their order.
 #![tactic(auto)]
+
 pub mod heights;
 mod order;
 mod rise;

@@ -3,6 +3,7 @@
 // types: whether a variable may stand at an argument. uses: the arguments that an operation reaches, and the variables in them.
 // rules: kinds 10 to 13 in their order. Every function ends and stays inside on any words.
 #![tactic(auto)]
+
 pub mod definitions;
 pub mod names;
 pub mod rules;

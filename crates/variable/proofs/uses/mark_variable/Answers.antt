@@ -1,0 +1,10 @@
+-- `uses::mark_variable` meets its contract. Assumes nothing.
+use native.Mathlib.Omega.{arith}
+use Rattle.variable.proofs.UseLaws.{marks_variable, marks_none}
+use Rattle.variable.proofs.uses.mark_variable.Goals as goal
+
+pub returns-then-i-count : goal.returns-then-i-count
+returns-then-i-count c = marks_variable _ (omega arith) (omega arith) c.put.ensures
+
+pub returns-else-i-count : goal.returns-else-i-count
+returns-else-i-count c = marks_none _ _ (omega arith)

@@ -1,0 +1,16 @@
+-- `uses::pass_row` meets its contract. Assumes nothing.
+use native.Mathlib.Omega.{arith}
+use Rattle.lists.proofs.Parts.{outside_none}
+use Rattle.variable.proofs.UseLaws.{row_used, row_spared}
+use Rattle.variable.proofs.uses.pass_row.Goals as goal
+
+pub returns-then-row-next : goal.returns-then-row-next
+returns-then-row-next c =
+    let used = c.variables_in_value.ensures in
+    record {
+      says = λ n. row_used _ _ _ _ c.end_of_row.ensures c.most-next.ensures (omega arith) (used.says n);
+      frame = used.frame;
+    }
+
+pub returns-else-row-next : goal.returns-else-row-next
+returns-else-row-next c = record { says = λ n. row_spared _ _ _ _ c.end_of_row.ensures c.most-next.ensures (omega arith); frame = outside_none _ _ _ }
