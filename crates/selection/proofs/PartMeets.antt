@@ -51,6 +51,8 @@ compare_quiet op clash (a ∷ others) y = against_quiet op clash a others y
 finished_if : (s : List ℕ) (arena : Arena) (op : ℕ) (z : states.Walk) {y : State} (r : Result) → Quiet y r → Tells s arena op z r → z.reply.kind ≡ 0 → r ≡ finished y
 finished_if s arena op z (finished y) quiet h go = refl
 finished_if s arena op z (conflict (entry t c a b) y) (loud f) h go = absurd (some_kind c (sym (ap (λ r. r.kind) h) ∙ go))
+finished_if s arena op z {y = y} (Rattle.merge_theory.specs.Steps.out _) x4 h go = elim x4 [ ]
+finished_if s arena op z {y = y} (Rattle.merge_theory.specs.Steps.deep _) x5 h go = elim x5 [ ]
 
 pub finished_first : (g : Step) (y : State) → after (finished y) g ≡ g y
 unfolding after

@@ -5,6 +5,7 @@
 // links: from each place of a list to the next of its class. standing: the links of a list that is met.
 // groups: groups and subgroups of a list, by places. walk: the two passes over an operation, and what they charge.
 #![tactic(auto)]
+
 pub mod arena;
 pub mod classes;
 mod groups;

@@ -1,0 +1,21 @@
+-- `groups::find_subgroup` meets its contract. The loop's invariant: the fields of the name that were passed open none. Assumes nothing.
+use Prim.Native.Nat.{◌-◌}
+use native.Mathlib.Omega.{arith}
+use mathlib.Core.Path.{refl, sym, ◌∙◌}
+use Rattle.selection.proofs.FollowLaws.{on_name_first, opens_next, opens_found, follow_ahead}
+use Rattle.selection.proofs.groups.find_subgroup.Goals as goal
+
+pub loop-place-init : goal.loop-place-init
+loop-place-init c = on_name_first _ _ _ _ _ _
+
+pub returns-then-opens_subgroup : goal.returns-then-opens_subgroup
+returns-then-opens_subgroup c = opens_found c.loop-place.invariant (λ _. sym c.opens_subgroup.ensures ∙ c.if-opens_subgroup.true) c.args.list refl
+
+pub loop-place-smaller : goal.loop-place-smaller
+loop-place-smaller c = omega (arith, follow_ahead _ _ _ _ _ c.follow-place.ensures (omega arith))
+
+pub loop-place-preserved : goal.loop-place-preserved
+loop-place-preserved c = opens_next c.loop-place.invariant (omega arith) (sym c.opens_subgroup.ensures ∙ c.if-opens_subgroup.false) c.follow-place.ensures
+
+pub returns : goal.returns
+returns c = opens_found c.loop-place.invariant (λ less. absurd (omega arith)) c.args.list refl

@@ -1,0 +1,17 @@
+-- `groups::later_subgroup` meets its contract. Assumes nothing.
+use mathlib.Core.Path.{sym, ap, ◌∙◌}
+use Rattle.selection.specs.Grouping.{has_object_parent}
+use Rattle.selection.proofs.FollowLaws.{later_is, later_none}
+use Rattle.selection.proofs.groups.later_subgroup.Goals as goal
+
+pub returns-then-has_object_parent : goal.returns-then-has_object_parent
+returns-then-has_object_parent c =
+    let a = c.args in
+    let object = ap (has_object_parent a.image.now a.s.now) (sym c.row_at.ensures) ∙ sym c.has_object_parent.ensures ∙ c.if-has_object_parent.true in
+    later_is a.cursor object c.follow-next.ensures c.find_subgroup.ensures
+
+pub returns : goal.returns
+returns c =
+    let a = c.args in
+    let object = ap (has_object_parent a.image.now a.s.now) (sym c.row_at.ensures) ∙ sym c.has_object_parent.ensures ∙ c.if-has_object_parent.false in
+    later_none a.cursor object

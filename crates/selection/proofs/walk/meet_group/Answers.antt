@@ -1,0 +1,7 @@
+-- `walk::meet_group` meets its contract: a law for each way out. Assumes nothing.
+use mathlib.Core.Bool.{true}
+use Rattle.selection.proofs.PartMeets.{part_bare}
+use Rattle.selection.proofs.walk.meet_group.Goals as goal
+
+pub returns-then-is_bare : goal.returns-then-is_bare
+returns-then-is_bare c = part_bare true c.requires c.is_bare.ensures c.if-is_bare.true

@@ -1,0 +1,10 @@
+-- `walk::queue_segment` meets its contract. The loop's invariant: the sets of the fields passed stand in the queue. Assumes nothing.
+use Prim.Native.Nat.{◌-◌}
+use Rattle.selection.proofs.QueueingLaws.{Queueing}
+use Rattle.selection.proofs.walk.queue_segment.Given as goal
+
+abbrev pub invariant-loop-place : goal.invariant-loop-place
+invariant-loop-place l = Queueing l.image l.arena l.initial.s l.s l.initial.next l.next l.segment l.from l.end l.place
+
+abbrev pub decreases-loop-place : goal.decreases-loop-place
+decreases-loop-place l = l.end - l.place
