@@ -79,7 +79,7 @@ module _ (run : Engine) (E : Decides run) (image : List ℕ) (work long : ℕ) w
       by_result : (r : Result) → run (document_of image) work used i ≡ r → usage_fault image i ≡ none → Later
           → Caused run image work long (of_walk i r (operations_from run image work left (suc i)))
       by_result (finished y) e none-wrong later = later y.used (ran_more ran none-wrong e)
-      by_result (conflict f y) e none-wrong later = by_entry (E.Stops-true (document_of image) work used i f y e) e none-wrong
+      by_result (conflict f y) e none-wrong later = by_entry (E.stops_true (document_of image) work used i f y e) e none-wrong
       by_result (out y) e none-wrong later = told run image work long (budget_spent turn none-wrong e)
       by_result (deep y) e none-wrong later =
           absurd (E.shallow (document_of image) (operation_sound (sane_good sane) i turn.own sane.fragments) work used i start y e)

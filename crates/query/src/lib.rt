@@ -2,6 +2,7 @@
 // check: the whole, for any words. needed: the words of scratch that an image and a budget need. refuse: kinds 1 to 3.
 // operations: kinds 10 to 17, operation by operation.
 #![tactic(auto)]
+
 pub mod check;
 pub mod needed;
 mod operations;
