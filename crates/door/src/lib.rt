@@ -1,6 +1,7 @@
 // The door for C and Rust: an image, a budget, and room for the five numbers of the reply. Any bytes, any words.
 // spelling: words as bytes, low byte first.
 #![tactic(auto)]
+
 pub mod spelling;
 
 ghost use Rattle.std.specs.Prelude.{◌≡◌, ◌≤◌, length};

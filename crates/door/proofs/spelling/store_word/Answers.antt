@@ -5,12 +5,10 @@ use mathlib.Core.List.{List, [], ◌∷◌}
 use native.Mathlib.Nat.{add-zero}
 use lib.ListN.{length, set, length-set}
 use mathlib.Core.Path.{◌≡◌, sym, ap, ◌∙◌}
-use borrow.Author.Rules.{rules}
 use Rattle.door.specs.Spelling.{bytes_of}
 use Rattle.lists.proofs.Parts.{write_none, write_more}
 use Rattle.lists.specs.Part.{write}
-use Rattle.door.proofs.spelling.store_word.Statement.{statement}
-use Rattle.door.proofs.spelling.store_word.Tie as tie
+use Rattle.door.proofs.spelling.store_word.Goals as goal
 
 four : (s : List ℕ) (at : ℕ) (a b c d : ℕ) → at + 4 ≤ length s → set (set (set (set s at a) (at + 1) b) (at + 2) c) (at + 3) d ≡ write s at (a ∷ b ∷ c ∷ d ∷ [])
 four s at a b c d room =
@@ -23,31 +21,16 @@ spelt : (s : List ℕ) (at w : ℕ) {a b c d : ℕ} → a ≡ w % 256 → b ≡ 
     → set (set (set (set s at a) (at + 1) b) (at + 2) c) (at + 3) d ≡ write s at (bytes_of w)
 spelt s at w a b c d room = rw (← a, ← b, ← c, ← d) (four s at _ _ _ _ room)
 
-slice-write-out-2 : tie.Need-slice-write-out-2
-slice-write-out-2 c = simp length-set (omega arith)
+pub bounds-out-start-2 : goal.bounds-out-start-2
+bounds-out-start-2 c = simp length-set (omega arith)
 
-slice-write-out-3 : tie.Need-slice-write-out-3
-slice-write-out-3 c = simp length-set (omega arith)
+pub bounds-out-start-3 : goal.bounds-out-start-3
+bounds-out-start-3 c = simp length-set (omega arith)
 
-slice-write-out-4 : tie.Need-slice-write-out-4
-slice-write-out-4 c = simp length-set (omega arith)
+pub bounds-out-start-4 : goal.bounds-out-start-4
+bounds-out-start-4 c = simp length-set (omega arith)
 
-returns : tie.Need-returns
+pub returns : goal.returns
 returns c =
-    let b = c.bytes_of.ensures in
+    let b = c.bytes_of-bytes.ensures in
     spelt _ _ _ b.0 b.1 b.2 b.3 (omega arith)
-
-pub store_word_spec : {M : Type 1} → statement M
-store_word_spec =
-    tie.close
-    (tie.spec
-    (λ c κs. search rules)
-    (λ c. search rules)
-    (λ c. search rules)
-    slice-write-out-2
-    (λ c. search rules)
-    slice-write-out-3
-    (λ c. search rules)
-    slice-write-out-4
-    (λ c. search rules)
-    returns)
