@@ -13,7 +13,7 @@ use lib.ListN.{length, get_or, set, length-append, length-set}
 use lib.Seq.{get_or-set_same, get_or-set_other}
 use Rattle.lists.specs.Part.{Stores, Outside}
 use Rattle.lists.proofs.Parts.{stores_length, stores_kept, pushed, set_outside}
-use Rattle.merge_theory.specs.Lists.{here, there, filter, is_in}
+use Rattle.merge_theory.specs.Lists.{filter, is_in}
 use Rattle.merge_theory.specs.Document.{field, spread, inline, Document, is_field, set_of}
 use Rattle.merge_theory.specs.Expand.{queued, marked}
 use Rattle.merge_theory.proofs.ListLaws.{head_in, in_left, in_right}

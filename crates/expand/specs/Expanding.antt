@@ -7,7 +7,7 @@ use Rattle.std.specs.Prelude.{◌≡◌, Bool, cond, List, [], ◌∷◌, ℕ, �
 use Rattle.lists.specs.Part.{Stores}
 use Rattle.merge_theory.specs.Lists.{◌∈◌, Every, flat_map}
 use Rattle.merge_theory.specs.Document.{Document}
-use Rattle.merge_theory.specs.Expand.{queued, QueueWalk, fields_of}
+use Rattle.merge_theory.specs.Expand.{QueueWalk, fields_of}
 use Rattle.tables.specs.declared.Range.{Range}
 use Rattle.tables.specs.Layout.{operations, fragments, sets, selections}
 use Rattle.tables.specs.Image.{count_at}

@@ -12,7 +12,6 @@ use Rattle.tables.specs.Columns.{spread, selection_kind, selection_target, fragm
 use Rattle.tables.specs.Good.{Good, StandsIn}
 use Rattle.reach.specs.Reach.{Reaches, itself, onward, SpreadsIn, SpreadFrom}
 use Rattle.reach.proofs.ReachMeaning.{reaches_trans, stands_row, spread_leads}
-use Rattle.fragment.specs.Chains.{below}
 use Rattle.fragment.specs.Rules.{own_set}
 use Rattle.fragment.specs.Meaning.{Inside, at_top, deeper, Follows, one, more}
 use Rattle.tables.proofs.ColumnLaws.{below_spread, below_own}

@@ -9,7 +9,6 @@ use lib.Seq.{take_all, length-take-le, get_or-drop, get_or-append-add}
 use Rattle.lists.specs.Part.{Outside}
 use Rattle.tables.specs.Layout.{operations}
 use Rattle.tables.specs.Image.{count_at}
-use Rattle.tables.specs.Good.{Good}
 use Rattle.variable.specs.Uses.{uses_words}
 use Rattle.variable.specs.Verdict.{usage_shows, usage_fault, Judged}
 use Rattle.variable.specs.declared.rules.Usage.{Usage}

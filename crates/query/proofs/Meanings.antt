@@ -15,7 +15,7 @@ use Rattle.merge_theory.specs.Document.{FieldAt, set_of, listed}
 use Rattle.merge_theory.specs.Rule.{Reached, start, onward, RuleHolds}
 use Rattle.merge_theory.specs.RuleBy.{RuleHoldsBy}
 use Rattle.merge_theory.proofs.RuleMeaning.{Means, rule_means}
-use Rattle.tables.specs.Layout.{NONE, operations, sets, fragments}
+use Rattle.tables.specs.Layout.{NONE, operations, sets}
 use Rattle.tables.specs.Image.{count_at}
 use Rattle.tables.specs.Columns.{field_type, field_arguments, selection_at, set_below}
 use Rattle.tables.specs.Good.{Good}
@@ -25,7 +25,6 @@ use Rattle.reach.specs.Reach as reach
 use Rattle.fragment.specs.Rules as fragment
 use Rattle.fragment.specs.Meaning.{AllReached, AllSpread}
 use Rattle.fragment.proofs.Whole.{all_reached, all_spread, every_set}
-use Rattle.values.specs.Same.{same_arguments}
 use Rattle.values.proofs.ShapeMeaning.{a_type, shape_decides}
 use Rattle.values.proofs.SameMeaning.{arguments_decide}
 use Rattle.values.proofs.FieldLaws.{field_reference, field_range}

@@ -10,7 +10,7 @@ use lib.ListN.{length, length-append}
 use borrow.Author.Tests.{ne_eqb, eqb-true}
 use Rattle.lists.specs.Part.{Stores, Outside}
 use Rattle.lists.proofs.Parts.{outside_none, outside_trans, outside_wider, stores_length}
-use Rattle.merge_theory.specs.Lists.{here, flat_map, filter, keep}
+use Rattle.merge_theory.specs.Lists.{flat_map, filter, keep}
 use Rattle.merge_theory.specs.Document.{Document, is_field, listed, set_of, FieldAt, field_at}
 use Rattle.merge_theory.specs.Document as kinds
 use Rattle.merge_theory.specs.Walk.{has_rows, sets_below}

@@ -1,7 +1,6 @@
 -- `expand::expand_selections` meets its contract. The loop's invariant: so many sets have left the queue. A word counts them, so it ends.
 -- Assumes nothing.
 use native.Mathlib.Omega.{arith}
-use Prim.Native.Nat.{◌-◌}
 use Rattle.expand.proofs.ExpandWalk.{underway_first, underway_turn, underway_end}
 use Rattle.expand.proofs.expand_selections.Goals as goal
 

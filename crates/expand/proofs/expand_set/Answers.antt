@@ -1,5 +1,4 @@
 -- `expand::expand_set` meets its contract. The loop's invariant: i rows of the set are done. Assumes nothing.
-use Prim.Native.Nat.{◌-◌}
 use mathlib.Core.Path.{◌≡◌}
 use native.Mathlib.Omega.{arith}
 use Rattle.expand.proofs.StepLaws.{steps_first, steps_more, steps_all}

@@ -1,7 +1,6 @@
 -- `descend` meets its contract. The loop's invariant: what the search is to find it finds from here. Assumes nothing.
 use native.Mathlib.Omega.{arith}
 use mathlib.Core.Path.{sym}
-use Prim.Native.Nat.{◌-◌}
 use Rattle.index.proofs.SearchLaws.{ends_here, ends_nowhere, goes_on}
 use Rattle.index.proofs.IndexLaws.{finds_first}
 use Rattle.index.proofs.descend.Goals as goal

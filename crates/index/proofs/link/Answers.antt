@@ -2,7 +2,7 @@
 use native.Mathlib.Omega.{arith}
 use mathlib.Core.Path.{◌≡◌, refl}
 use mathlib.Core.List.{List}
-use Prim.Native.Nat.{ℕ, ◌-◌, ◌≤◌, ◌<◌, ◌/◌}
+use Prim.Native.Nat.{ℕ, ◌≤◌, ◌<◌, ◌/◌}
 use lib.ListN.{get_or, set, length-set}
 use Rattle.index.specs.declared.Index.{Index}
 use Rattle.index.specs.Indexed.{key_at, first_place, link_place, link_at, Linked, Links}

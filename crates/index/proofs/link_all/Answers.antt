@@ -1,7 +1,6 @@
 -- `link_all` meets its contract. The loop's invariant: the places passed are linked, and their first places told. Assumes nothing.
 use native.Mathlib.Omega.{arith}
 use mathlib.Core.Path.{refl}
-use Prim.Native.Nat.{◌-◌}
 use Rattle.index.proofs.IndexLaws.{first_linked, cleared_frame}
 use Rattle.index.proofs.FirstsLaws.{told_first, linked_first, told_more, linked_told, all_told}
 use Rattle.index.proofs.link_all.Goals as goal

@@ -1,7 +1,7 @@
 -- `is_known` meets its contract. The loop's invariant: the lists that are still to be looked at decide.
 use mathlib.Core.Path.{◌≡◌}
 use mathlib.Core.List.{List}
-use Prim.Native.Nat.{ℕ, ◌+◌, ◌-◌, ◌<◌}
+use Prim.Native.Nat.{ℕ, ◌+◌, ◌<◌}
 use Rattle.lists.specs.Part.{Stores}
 use Rattle.merge_theory.specs.Lists.{is_known}
 use Rattle.known.specs.declared.Registry.{Registry}

@@ -1,11 +1,10 @@
 -- `same_rows` meets its contract. The loop's invariant: the words passed are the same.
 use borrow.Author.Tests.{eq-eqb, ne_eqb}
 use lib.ListN.{get_or}
-use Prim.Native.Nat.{◌+◌, ◌-◌}
+use Prim.Native.Nat.{◌+◌}
 use native.Mathlib.Omega.{arith}
 use mathlib.Core.Path.{◌≡◌, sym, ◌∙◌}
 use borrow.Author.Count.{below_none, below_more}
-use mathlib.Core.Bool.{true}
 use Rattle.lists.proofs.EveryLaws.{every_intro, every_fails}
 use Rattle.known.proofs.same_rows.Goals as goal
 

@@ -8,7 +8,7 @@ use Rattle.tables.specs.Layout.{sets}
 use native.Mathlib.Omega.{arith}
 use Rattle.reach.proofs.WalkLaws.{walks_none, walks_turn, walks_all, enter_at, starts}
 use Rattle.reach.specs.Reach.{start_sets}
-use Rattle.tables.specs.Image.{count_at, row_in}
+use Rattle.tables.specs.Image.{count_at}
 use Rattle.reach.proofs.start_sets.Goals as goal
 
 -- the words when the loop begins

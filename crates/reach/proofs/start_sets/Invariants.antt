@@ -1,7 +1,6 @@
 -- `reach::start_sets` meets its contract. The loop's invariant: the sets passed are met, from a walk that has met none.
 -- Assumes nothing.
 use Prim.Native.Nat.{◌-◌, ◌≤◌}
-use Rattle.tables.specs.Layout.{sets}
 use Rattle.reach.specs.Turns.{turns}
 use Rattle.reach.specs.Reach.{begun, enter_set, Walks}
 use Rattle.tables.specs.Image.{row_in}

@@ -1,7 +1,6 @@
 -- `reach::walk_selections_with_deduped_fragments` meets its contract. The loop's invariant: the sets passed are walked, and
 -- what is left of the walk leads to the whole walk's end. Assumes nothing.
 use native.Mathlib.Omega.{arith}
-use Prim.Native.Nat.{◌-◌}
 use Rattle.reach.proofs.WalkLaws.{going_begins, going_on, going_ends}
 use Rattle.reach.specs.Reach.{reached_from}
 use Rattle.reach.proofs.walk_selections_with_deduped_fragments.Goals as goal

@@ -1,8 +1,6 @@
 -- `reach::walk_set` meets its contract. The loop's invariant: the rows passed are walked. Assumes nothing.
-use Prim.Native.Nat.{◌-◌}
 use native.Mathlib.Omega.{arith}
 use Rattle.reach.proofs.WalkLaws.{walks_none, walks_turn, walks_rows}
-use Rattle.tables.specs.Image.{row_in}
 use Rattle.reach.proofs.walk_set.Goals as goal
 
 pub loop-i-init : goal.loop-i-init

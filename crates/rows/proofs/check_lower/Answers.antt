@@ -1,5 +1,4 @@
 -- `rows::check_lower` meets its contract. The loop's invariant: no row of a table passed breaks its rule. Assumes nothing.
-use Prim.Native.Nat.{◌-◌}
 use mathlib.Core.Path.{refl}
 use native.Mathlib.Omega.{arith}
 use Rattle.lists.specs.First.{first_fault}

@@ -1,6 +1,5 @@
 -- `rows::check_tables` meets its contract: a law for each `return`. Assumes nothing.
 use native.Mathlib.Omega.{arith}
-use mathlib.Core.Logic.{⊎_elim}
 use Rattle.rows.proofs.RowPass.{passed_good, good_tables, good_more, breaks, lower_breaks, leaves_all, shows_no_fault}
 use Rattle.rows.proofs.check_tables.Goals as goal
 

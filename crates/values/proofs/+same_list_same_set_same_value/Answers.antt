@@ -8,7 +8,7 @@ use mathlib.Core.Bool.{Bool}
 use Rattle.tables.specs.declared.Range.{Range}
 use Rattle.tables.specs.Image.{row_in}
 use Rattle.tables.specs.Keys.{key_of}
-use Rattle.values.specs.Same.{place_of, matched, same_value}
+use Rattle.values.specs.Same.{place_of, same_value}
 use Rattle.values.proofs.SameCases.{list_unlike, list_differs, list_same, set_differs, set_left, unmatched_key, unmatched_value, match_found}
 use Rattle.values.proofs.SameCases.{found, value_none, value_unlike, value_lists, value_objects, value_atoms}
 use Rattle.values.proofs.+same_list_same_set_same_value.Goals as goal

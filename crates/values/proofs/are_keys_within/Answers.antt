@@ -1,14 +1,12 @@
 -- `values::are_keys_within` meets its contract. The loop's invariant: each key passed is one of `outer`'s. Assumes nothing.
-use mathlib.Core.Path.{◌≡◌, sym, ap, ◌∙◌}
+use mathlib.Core.Path.{sym, ap, ◌∙◌}
 use native.Mathlib.Omega.{arith}
-use mathlib.Core.Bool.{true, not}
+use mathlib.Core.Bool.{not}
 use borrow.Author.Count.{below_none, below_more}
-use Prim.Native.Nat.{◌-◌}
 use Rattle.lists.proofs.EveryLaws.{every_intro, every_fails}
 use Rattle.tables.specs.Keys.{key_of}
-use Rattle.values.specs.Same.{has_key, keys_within}
+use Rattle.values.specs.Same.{keys_within}
 use Rattle.values.proofs.SameCases.{searched}
-use Rattle.tables.specs.Image.{row_in}
 use Rattle.values.proofs.are_keys_within.Goals as goal
 
 pub loop-i-init : goal.loop-i-init

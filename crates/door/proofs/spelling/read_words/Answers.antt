@@ -1,5 +1,5 @@
 -- `spelling::read_words` meets its contract. The loop's invariant: the first i words are read, or as many as there is room for. Assumes nothing.
-use Prim.Native.Nat.{ℕ, ◌+◌, ◌-◌, ◌<◌, min}
+use Prim.Native.Nat.{ℕ, ◌+◌, ◌<◌, min}
 use native.Mathlib.Decide.{dec_le}
 use native.Mathlib.Omega.{arith}
 use mathlib.Core.List.{List}

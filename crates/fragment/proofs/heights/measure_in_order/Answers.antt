@@ -1,10 +1,10 @@
 -- `heights::measure_in_order` meets its contract. The loop's invariant: the turns so far went well, and nothing but heights has changed.
 -- Assumes nothing.
-use Prim.Native.Nat.{◌*◌, ◌-◌}
+use Prim.Native.Nat.{◌*◌}
 use native.Mathlib.Nat.{le_refl}
 use native.Mathlib.Omega.{arith}
 use mathlib.Core.Path.{◌≡◌, refl, sym, subst, ◌∙◌}
-use mathlib.Core.Bool.{true, false≢true}
+use mathlib.Core.Bool.{false≢true}
 use Rattle.lists.proofs.Parts.{outside_none, outside_trans}
 use Rattle.tables.specs.Image.{count_at}
 use Rattle.tables.specs.Layout.{sets}

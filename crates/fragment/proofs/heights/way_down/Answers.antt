@@ -2,7 +2,6 @@
 -- these lead lower is as said. Assumes nothing.
 use native.Mathlib.Omega.{arith}
 use mathlib.Core.Path.{◌≡◌, ◌∙◌, ap}
-use Prim.Native.Nat.{◌-◌}
 use Rattle.fragment.proofs.HeightLaws.{none_passed, one_passed, all_passed}
 use Rattle.fragment.proofs.Ordered.{none_lower, one_lower_more, all_lower_passed}
 use Rattle.tables.specs.Image.{row_in}

@@ -1,6 +1,5 @@
 -- `order::order_sets` ends, and stays inside. Assumes nothing.
 use mathlib.Core.Path.{◌∙◌}
-use Prim.Native.Nat.{◌-◌}
 use Rattle.fragment.proofs.order.order_sets.Goals as goal
 
 pub loop-set-preserved : goal.loop-set-preserved

@@ -1,7 +1,6 @@
 -- `rise::highest_rise` meets its contract. The loop's invariant: the rise is the greatest of the sets passed. Assumes nothing.
 use native.Mathlib.Omega.{arith}
 use mathlib.Core.Path.{◌≡◌, ap, ◌∙◌}
-use Prim.Native.Nat.{◌-◌}
 use Rattle.tables.specs.Image.{count_at}
 use Rattle.tables.specs.Layout.{sets}
 use Rattle.fragment.specs.Rise.{highest_rise}

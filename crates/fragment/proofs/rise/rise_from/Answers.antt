@@ -1,7 +1,6 @@
 -- `rise::rise_from` meets its contract. The loop's invariant: the rise is the greatest of the selections passed. Assumes nothing.
 use native.Mathlib.Omega.{arith}
 use mathlib.Core.Path.{◌≡◌, ap, ◌∙◌}
-use Prim.Native.Nat.{◌-◌}
 use Rattle.tables.specs.Image.{row_in}
 use Rattle.tables.specs.declared.Range.{Range}
 use Rattle.fragment.proofs.Rising.{none_risen, one_risen, all_risen}

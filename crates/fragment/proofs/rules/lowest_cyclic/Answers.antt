@@ -1,12 +1,9 @@
 -- `rules::lowest_cyclic` meets its contract. The loop's invariant: none of those passed fails. Assumes nothing.
 use mathlib.Core.Path.{sym, ◌∙◌}
 use borrow.Author.Count.{below_none, below_more}
-use Prim.Native.Nat.{◌-◌}
-use mathlib.Core.Bool.{false}
 use native.Mathlib.Omega.{arith}
 use Rattle.fragment.proofs.Rising.{risen_still}
 use Rattle.fragment.proofs.RuleLaws.{stops_at, stops_nowhere}
-use Rattle.fragment.specs.Rules.{reaches_itself}
 use Rattle.lists.proofs.Parts.{outside_none, outside_trans}
 use Rattle.fragment.proofs.rules.lowest_cyclic.Goals as goal
 

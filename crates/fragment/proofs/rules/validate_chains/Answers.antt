@@ -1,8 +1,6 @@
 -- `rules::validate_chains` meets its contract. The loop's invariant: none of those passed fails. Assumes nothing.
 use mathlib.Core.Path.{sym, ◌∙◌}
 use borrow.Author.Count.{below_none, below_more}
-use Prim.Native.Nat.{◌-◌}
-use mathlib.Core.Bool.{false}
 use native.Mathlib.Omega.{arith}
 use Rattle.fragment.proofs.RuleLaws.{stops_at, stops_nowhere}
 use Rattle.fragment.proofs.rules.validate_chains.Goals as goal

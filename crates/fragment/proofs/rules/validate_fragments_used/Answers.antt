@@ -1,6 +1,4 @@
 -- `rules::validate_fragments_used` meets its contract. The loop's invariant: none of those passed fails. Assumes nothing.
-use Prim.Native.Nat.{◌-◌}
-use mathlib.Core.Bool.{false}
 use borrow.Author.Count.{below_none, below_more}
 use native.Mathlib.Omega.{arith}
 use Rattle.fragment.proofs.RuleLaws.{stops_at, stops_nowhere}

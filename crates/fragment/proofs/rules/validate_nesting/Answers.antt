@@ -2,8 +2,6 @@
 use borrow.Author.Count.{below_none, below_more}
 use borrow.Author.Tests.{lt-ltb, le-ltb}
 use lib.Dec.{ltb}
-use Prim.Native.Nat.{◌-◌}
-use mathlib.Core.Bool.{false}
 use mathlib.Core.Path.{sym, ap, ◌∙◌}
 use native.Mathlib.Omega.{arith}
 use Rattle.fragment.specs.declared.heights.Height.{Height}

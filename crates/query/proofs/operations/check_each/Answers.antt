@@ -1,9 +1,7 @@
 -- `operations::check_each` meets its contract. The loop's invariant: the operations passed leave the reply to the others.
 -- Assumes nothing.
-use Prim.Native.Nat.{◌-◌}
 use native.Mathlib.Omega.{arith}
 use mathlib.Core.Path.{◌∙◌}
-use Rattle.tables.specs.Layout as layout
 use Rattle.query.proofs.EachOperation.{going_first, going_next, going_stops, going_done}
 use Rattle.query.proofs.operations.check_each.Goals as goal
 

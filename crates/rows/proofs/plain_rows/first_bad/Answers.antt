@@ -1,8 +1,6 @@
 -- `plain_rows::first_bad` meets its contract. The loop's invariant: every row passed is good. Assumes nothing.
 use borrow.Author.Count.{below_none, below_more}
-use mathlib.Core.Bool.{true}
 use native.Mathlib.Omega.{arith}
-use Prim.Native.Nat.{◌-◌}
 use mathlib.Core.Path.{sym, ◌∙◌}
 use Rattle.rows.proofs.RowLaws.{stops_at, stops_nowhere}
 use Rattle.rows.proofs.plain_rows.first_bad.Goals as goal

@@ -1,6 +1,5 @@
 -- `selections::check_selections` meets its contract. The loop's invariant: the rows of the sets passed are good, and the row at
 -- hand is where the set at hand starts. Assumes nothing.
-use Prim.Native.Nat.{◌-◌}
 use native.Mathlib.Omega.{arith}
 use Rattle.rows.proofs.SelectionPass.{first_fits, begins, end_fits, enters_set, stopped, leaves_set, enters_none, finished}
 use Rattle.rows.proofs.selections.check_selections.Goals as goal

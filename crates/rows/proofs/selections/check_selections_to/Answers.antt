@@ -1,6 +1,5 @@
 -- `selections::check_selections_to` meets its contract. The loop's invariant: what it takes for granted holds of the row at hand.
 -- Assumes nothing.
-use Prim.Native.Nat.{◌-◌}
 use native.Mathlib.Omega.{arith}
 use Rattle.rows.proofs.SelectionPass.{number_fits, takes_row, stops_at, passes_all}
 use Rattle.rows.proofs.selections.check_selections_to.Goals as goal

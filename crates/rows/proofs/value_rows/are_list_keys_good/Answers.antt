@@ -1,14 +1,12 @@
 -- `value_rows::are_list_keys_good` meets its contract. The loop's invariant: each row passed has key NONE. Assumes nothing.
 use borrow.Author.Tests.{eq-eqb, ne_eqb}
-use mathlib.Core.Bool.{true}
 use native.Mathlib.Omega.{arith}
-use mathlib.Core.Path.{◌≡◌, sym, ap, ◌∙◌}
+use mathlib.Core.Path.{sym, ap, ◌∙◌}
 use borrow.Author.Count.{below_none, below_more}
-use Prim.Native.Nat.{◌-◌}
 use Rattle.lists.proofs.EveryLaws.{every_intro, every_fails}
 use Rattle.tables.specs.Layout.{values}
 use Rattle.rows.specs.Values.{good_list_keys}
-use Rattle.tables.specs.Keys.{key_of, key_in}
+use Rattle.tables.specs.Keys.{key_of}
 use Rattle.rows.proofs.value_rows.are_list_keys_good.Goals as goal
 
 pub loop-i-init : goal.loop-i-init

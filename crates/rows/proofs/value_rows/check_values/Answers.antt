@@ -1,9 +1,7 @@
 -- `value_rows::check_values` meets its contract. The loop's invariant: all rows passed are good, and the running numbers are those
 -- of the definitions. Assumes nothing.
-use Prim.Native.Nat.{◌-◌, ◌+◌}
-use mathlib.Core.Path.{◌≡◌, sym, ◌∙◌}
-use mathlib.Core.Logic.{⊎_elim}
-use Rattle.rows.specs.Values.{good_value}
+use Prim.Native.Nat.{◌+◌}
+use mathlib.Core.Path.{sym, ◌∙◌}
 use Rattle.rows.proofs.ValuePass.{Levels, begins, climbs, stays, good_row, claim_fits, goes_on, stops, ends}
 use native.Mathlib.Omega.{arith}
 use Rattle.rows.proofs.value_rows.check_values.Goals as goal

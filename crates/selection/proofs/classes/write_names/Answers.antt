@@ -1,7 +1,5 @@
 -- `classes::write_names` meets its contract. The loop's invariant: the keys of the rows before this one are written. Assumes nothing.
 use native.Mathlib.Omega.{arith}
-use Prim.Native.Nat.{◌-◌}
-use Rattle.tables.specs.Columns.{response_name}
 use Rattle.selection.proofs.ClassLaws.{written_none, written_more, written_all}
 use Rattle.selection.proofs.classes.write_names.Goals as goal
 

@@ -1,6 +1,5 @@
 -- `classes::write_pairs` meets its contract. The loop's invariant: the keys of the rows before this one are written. Assumes nothing.
 use native.Mathlib.Omega.{arith}
-use Prim.Native.Nat.{◌-◌}
 use Rattle.selection.proofs.ClassLaws.{written_none, written_more, written_all, pair_kept}
 use Rattle.selection.proofs.classes.write_pairs.Goals as goal
 

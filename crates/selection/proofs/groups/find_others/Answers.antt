@@ -1,6 +1,5 @@
 -- `groups::find_others` meets its contract. The loop's invariant: the fields of the name that were passed have objects for parents.
 -- Assumes nothing.
-use Prim.Native.Nat.{◌-◌}
 use native.Mathlib.Omega.{arith}
 use mathlib.Core.Path.{refl, sym, ap, ◌∙◌}
 use Rattle.selection.specs.Grouping.{has_object_parent}

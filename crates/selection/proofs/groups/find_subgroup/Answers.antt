@@ -1,5 +1,4 @@
 -- `groups::find_subgroup` meets its contract. The loop's invariant: the fields of the name that were passed open none. Assumes nothing.
-use Prim.Native.Nat.{◌-◌}
 use native.Mathlib.Omega.{arith}
 use mathlib.Core.Path.{refl, sym, ◌∙◌}
 use Rattle.selection.proofs.FollowLaws.{on_name_first, opens_next, opens_found, follow_ahead}

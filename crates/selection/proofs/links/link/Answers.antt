@@ -1,7 +1,6 @@
 -- `links::link` meets its contract. The loop's invariant: the places below this one are linked. Assumes nothing.
 use mathlib.Core.Path.{refl, ◌∙◌}
 use native.Mathlib.Omega.{arith}
-use Prim.Native.Nat.{◌-◌}
 use Rattle.selection.proofs.LinkLaws.{under_none, under_turn, under_all, link_long}
 use Rattle.selection.proofs.links.link.Goals as goal
 

@@ -1,6 +1,5 @@
 -- `parents::fill_parent` meets its contract. The loop's invariant: the words of i rows are written. Assumes nothing.
 use native.Mathlib.Omega.{arith}
-use Prim.Native.Nat.{◌-◌}
 use mathlib.Core.Path.{◌≡◌}
 use Rattle.selection.proofs.ParentsLaws.{filled_none, filled_more}
 use Rattle.selection.proofs.parents.fill_parent.Goals as goal

@@ -2,7 +2,6 @@
 -- Assumes nothing.
 use mathlib.Core.Path.{refl, ◌∙◌}
 use native.Mathlib.Omega.{arith}
-use Prim.Native.Nat.{◌-◌}
 use Rattle.selection.proofs.ParentsLaws.{parents_none, parents_turn, parents_all}
 use Rattle.selection.proofs.parents.write_parents.Goals as goal
 

@@ -4,7 +4,7 @@ use mathlib.Core.Path.{◌≡◌}
 use Prim.Native.Nat.{◌≤◌, ◌-◌}
 use lib.ListN.{length}
 use Rattle.tables.specs.Numbering.{set_start}
-use Rattle.tables.specs.Layout.{sets, selections}
+use Rattle.tables.specs.Layout.{selections}
 use Rattle.selection.specs.Parents.{ParentsBelow}
 use Rattle.tables.specs.Good.{Good}
 use Rattle.tables.specs.Image.{count_at}

@@ -6,7 +6,7 @@ use Rattle.selection.specs.Refining.{document, Ample}
 use Rattle.selection.proofs.PartLaws.{Along}
 use Rattle.selection.proofs.LoopLaws.{PassLoop}
 use Rattle.selection.proofs.ParentLaws.{to_go}
-use Prim.Native.Nat.{ℕ, ◌<◌}
+use Prim.Native.Nat.{◌<◌}
 use Rattle.selection.proofs.walk.+same_for_common_parents_by_name.Given as goal
 
 abbrev pub decreases-same_for_common_parents_by_name : goal.decreases-same_for_common_parents_by_name

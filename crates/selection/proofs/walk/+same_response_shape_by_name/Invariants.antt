@@ -5,7 +5,6 @@ use Prim.Native.Nat.{◌-◌}
 use Rattle.selection.specs.Refining.{document, Ample}
 use Rattle.selection.proofs.LoopLaws.{PassLoop}
 use Rattle.selection.proofs.ShapeLaws.{AlongGroups}
-use Prim.Native.Nat.{ℕ}
 use Rattle.selection.proofs.walk.+same_response_shape_by_name.Given as goal
 
 abbrev pub decreases-same_response_shape_by_name : goal.decreases-same_response_shape_by_name

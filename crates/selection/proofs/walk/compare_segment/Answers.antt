@@ -1,7 +1,6 @@
 -- `walk::compare_segment` meets its contract. The loop's invariant: what is left decides. Assumes nothing.
 use mathlib.Core.Path.{refl, sym, ◌∙◌}
 use native.Mathlib.Omega.{arith}
-use Prim.Native.Nat.{◌-◌}
 use Rattle.selection.proofs.FollowLaws.{follow_ahead}
 use Rattle.selection.proofs.CompareLaws.{comparing_first, comparing_next, comparing_clash, comparing_done}
 use Rattle.selection.proofs.walk.compare_segment.Goals as goal

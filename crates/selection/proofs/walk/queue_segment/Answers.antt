@@ -1,7 +1,6 @@
 -- `walk::queue_segment` meets its contract. The loop's invariant: the sets of the fields passed stand in the queue. Assumes nothing.
 use mathlib.Core.Path.{refl}
 use native.Mathlib.Omega.{arith}
-use Prim.Native.Nat.{◌-◌}
 use Rattle.selection.proofs.FollowLaws.{follow_ahead}
 use Rattle.selection.proofs.QueueingLaws.{queueing_first, queueing_next, queueing_done}
 use Rattle.selection.proofs.walk.queue_segment.Goals as goal

@@ -1,6 +1,5 @@
 -- `header::check_tables` meets its contract: as long as the loop goes on, no table passed was wrong. Assumes nothing.
 use mathlib.Core.Path.{refl, sym}
-use Prim.Native.Nat.{◌-◌}
 use borrow.Author.Rules.{rules}
 use native.Mathlib.Omega.{arith}
 use Rattle.lists.proofs.FirstLaws.{goes_on, finishes}

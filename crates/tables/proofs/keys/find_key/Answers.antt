@@ -1,11 +1,9 @@
 -- `keys::find_key` meets its contract. The loop's invariant: no row passed has the key. Assumes nothing.
 use borrow.Author.Count.{below_none, below_more}
-use Prim.Native.Nat.{◌-◌}
-use mathlib.Core.Path.{◌≡◌, sym, ap, ◌∙◌}
+use mathlib.Core.Path.{sym, ap, ◌∙◌}
 use native.Mathlib.Omega.{arith}
 use borrow.Author.Tests.{eq-eqb, ne_eqb}
-use mathlib.Core.Bool.{false}
-use Rattle.tables.specs.Keys.{key_of, key_in}
+use Rattle.tables.specs.Keys.{key_of}
 use Rattle.lists.proofs.EveryLaws.{position_found, position_none}
 use Rattle.tables.proofs.keys.find_key.Goals as goal
 

@@ -1,9 +1,8 @@
 -- `shape::same_output_type_shape` meets its contract. The loop's invariant: the two rows at hand have one shape exactly if the two
 -- references have; the left row falls.
 -- Assumes nothing.
-use mathlib.Core.Path.{◌≡◌, ap₂, ◌∙◌}
+use mathlib.Core.Path.{ap₂, ◌∙◌}
 use native.Mathlib.Omega.{arith}
-use Rattle.tables.specs.Columns.{reference_kind}
 use Rattle.values.specs.Shape.{both_wrappers}
 use Rattle.values.proofs.ShapeCases.{shape_unlike, shape_names, shape_endless, shape_items}
 use Rattle.values.proofs.shape.same_output_type_shape.Goals as goal

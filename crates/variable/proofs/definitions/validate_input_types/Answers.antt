@@ -1,11 +1,8 @@
 -- `definitions::validate_input_types` meets its contract. The loop's invariant: no row passed is one of kind 10. Assumes nothing.
 use native.Mathlib.Omega.{arith}
 use mathlib.Core.Path.{sym, ap, ◌∙◌}
-use Prim.Native.Nat.{◌-◌}
-use mathlib.Core.Bool.{false}
 use borrow.Author.Count.{below_none, below_more}
 use Rattle.variable.specs.Definitions.{is_output, first_output}
-use Rattle.tables.specs.Image.{row_in}
 use Rattle.lists.proofs.EveryLaws.{position_found, position_none}
 use Rattle.variable.proofs.definitions.validate_input_types.Goals as goal
 

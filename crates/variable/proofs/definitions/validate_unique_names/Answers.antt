@@ -1,12 +1,9 @@
 -- `definitions::validate_unique_names` meets its contract. The loop's invariant: each row passed is the first of its name. Assumes nothing.
 use native.Mathlib.Omega.{arith}
-use mathlib.Core.Path.{◌≡◌, sym, ap, ◌∙◌}
-use Prim.Native.Nat.{◌-◌}
+use mathlib.Core.Path.{sym, ap, ◌∙◌}
 use borrow.Author.Tests.{eq-eqb, ne_eqb}
 use borrow.Author.Count.{below_none, below_more}
-use mathlib.Core.Bool.{true}
-use Rattle.variable.specs.Definitions.{name_in, find_name, first_repeated}
-use Rattle.variable.specs.Names.{Named}
+use Rattle.variable.specs.Definitions.{find_name, first_repeated}
 use Rattle.tables.specs.Columns.{variable_name}
 use Rattle.lists.proofs.EveryLaws.{first_bad_lem, none_bad}
 use Rattle.variable.proofs.definitions.validate_unique_names.Goals as goal

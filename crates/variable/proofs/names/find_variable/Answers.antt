@@ -1,8 +1,6 @@
 -- `names::find_variable` meets its contract. The loop's invariant: no row passed has the name. Assumes nothing.
 use native.Mathlib.Omega.{arith}
 use mathlib.Core.Path.{sym, ap, ◌∙◌}
-use Prim.Native.Nat.{◌-◌}
-use mathlib.Core.Bool.{false}
 use borrow.Author.Count.{below_more}
 use borrow.Author.Tests.{eq-eqb, ne_eqb}
 use Rattle.lists.proofs.EveryLaws.{position_found, position_none}

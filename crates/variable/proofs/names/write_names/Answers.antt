@@ -1,7 +1,6 @@
 -- `names::write_names` meets its contract. The loop's invariant: the names passed are written. Assumes nothing.
 use native.Mathlib.Omega.{arith}
 use mathlib.Core.Path.{ap, ◌∙◌}
-use Prim.Native.Nat.{◌-◌}
 use Rattle.tables.specs.Columns.{variable_name}
 use Rattle.variable.proofs.NameLaws.{writing_begins, writing_on, writing_ends}
 use Rattle.variable.proofs.names.write_names.Goals as goal

@@ -1,10 +1,8 @@
 -- `rules::validate_unused_variables` meets its contract. The loop's invariant: the variables passed are marked. Assumes nothing.
 use mathlib.Core.Path.{sym, ◌∙◌}
 use borrow.Author.Count.{below_none, below_more}
-use Prim.Native.Nat.{◌-◌}
 use native.Mathlib.Omega.{arith}
 use borrow.Author.Tests.{eq-eqb, ne_eqb}
-use mathlib.Core.Bool.{false}
 use Rattle.variable.specs.Uses.{first_unused}
 use Rattle.lists.proofs.EveryLaws.{position_found, position_none}
 use Rattle.variable.proofs.rules.validate_unused_variables.Goals as goal

@@ -1,9 +1,7 @@
 -- `rules::validate_variable_usage` meets its contract. The loop's invariant: the arguments passed are allowed where they are reached. Assumes nothing.
 use mathlib.Core.Path.{sym, ap, ◌∙◌}
-use mathlib.Core.Bool.{true}
 use borrow.Author.Count.{below_none, below_more}
 use native.Mathlib.Numerals.{add-one}
-use Prim.Native.Nat.{◌-◌}
 use native.Mathlib.Omega.{arith}
 use Rattle.variable.specs.Uses.{furthest, first_misused}
 use Rattle.variable.proofs.VerdictLaws.{end_next, end_begins, asked_of}

@@ -1,6 +1,5 @@
 -- `uses::mark_variables` meets its contract. The loop's invariant: the rows passed are used as they should. Assumes nothing.
 use native.Mathlib.Omega.{arith}
-use Prim.Native.Nat.{◌-◌}
 use Rattle.variable.proofs.UseLaws.{passing_first, passing_next, passing_ends}
 use Rattle.variable.proofs.uses.mark_variables.Goals as goal
 

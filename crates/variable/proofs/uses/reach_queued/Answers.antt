@@ -1,6 +1,5 @@
 -- `uses::reach_queued` meets its contract. The loop's invariant: the sets passed are reached. Assumes nothing.
 use native.Mathlib.Omega.{arith}
-use Prim.Native.Nat.{◌-◌}
 use Rattle.variable.proofs.UseLaws.{queueing_begins, queueing_on, queueing_ends}
 use Rattle.variable.proofs.uses.reach_queued.Goals as goal
 

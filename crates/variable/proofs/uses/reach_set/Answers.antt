@@ -1,8 +1,5 @@
 -- `uses::reach_set` meets its contract. The loop's invariant: the rows passed are reached. Assumes nothing.
-use Prim.Native.Nat.{◌-◌}
 use native.Mathlib.Omega.{arith}
-use Rattle.variable.specs.Uses.{reach_selection}
-use Rattle.tables.specs.Image.{row_in}
 use Rattle.variable.proofs.UseLaws.{steps_none, steps_turn, set_reached}
 use Rattle.variable.proofs.uses.reach_set.Goals as goal
 
