@@ -22,10 +22,12 @@ if [ -n "$compiler" ]; then
     "$compiler" -std=c99 -O2 -Wall -Wextra -o "$out/example" ${link[@]+"${link[@]}"} hosts/c/example.c "$lib/libdoor.a"
     exec ${under[@]+"${under[@]}"} "$out/example" "$image"
 fi
+kit=$(dirname "$(dirname "$(readlink -f "$(command -v rt)")")")
+tools=$kit/toolchain
 target=x86_64-unknown-linux-gnu
 "$tools/bin/clang" --no-default-config --target=$target -O2 -fPIC -nostdinc -isystem hosts/c/kit -c hosts/c/example.c -o "$out/example.o"
-"$kit/on/$machine/bin/rattle-link" --target $target --toolchain "$tools" -o "$out/example" "$out/example.o" "$lib/libdoor.a" >"$out/link.log" 2>&1 || {
+"$kit/bin/rattle-link" --target $target --toolchain "$tools" -o "$out/example" "$out/example.o" "$lib/libdoor.a" >"$out/link.log" 2>&1 || {
     cat "$out/link.log" >&2
     exit 1
 }
-exec ${under[@]+"${under[@]}"} "$tools/lib/ld-linux-x86-64.so.2" --library-path "$tools/lib" "$out/example" "$image"
+exec "$tools/lib/ld-linux-x86-64.so.2" --library-path "$tools/lib" "$out/example" "$image"

@@ -1,4 +1,4 @@
-//! Links libdoor.a, which `rt staticlib door` writes to target/staticlib; PONYBLUSTER_LIB names another folder that has it.
+//! Links libdoor.a, which hosts/rust/run.sh has built in target/staticlib; PONYBLUSTER_LIB names another folder that has it.
 use std::env;
 use std::path::PathBuf;
 

@@ -1,9 +1,9 @@
 #!/usr/bin/env bash
 # Builds the door's library, runs the Rust host's tests, then its example on an image.
 #   hosts/rust/run.sh [IMAGE]      (default: examples/primer.img)
-# On x86-64 it needs cargo. Elsewhere the tests are built for x86-64 and run under the kit's emulator: that takes a Rust compiler that
-# has the x86-64 standard library (`rustup target add x86_64-unknown-linux-gnu`, or RUSTC=..) and x86_64-linux-gnu-gcc with its C
-# library (Debian: gcc-x86-64-linux-gnu libc6-dev-amd64-cross).
+# On x86-64 it needs cargo. Elsewhere the tests are built for x86-64 and run under qemu-x86_64: that takes a Rust compiler that has the
+# x86-64 standard library (`rustup target add x86_64-unknown-linux-gnu`, or RUSTC=..) and x86_64-linux-gnu-gcc with its C library
+# (Debian: qemu-user gcc-x86-64-linux-gnu libc6-dev-amd64-cross).
 set -euo pipefail
 image=$(readlink -f "${1:-$(dirname "$0")/../../examples/primer.img}")
 cd "$(dirname "$0")/../.."

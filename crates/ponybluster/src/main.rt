@@ -1,33 +1,34 @@
 // Checks the image on standard input with a budget of 1000, as the door does, and prints the reply: five numbers in decimal.
 #![tactic(auto)]
+
 use door::check_query;
 use door::spelling::read_words;
+use std::io::{self, Read};
 
 // One byte more than an image may have: a longer input shows.
-const MOST_BYTES: usize = 32769;
+const MOST_BYTES: u64 = 32769;
 
 const BUDGET: u32 = 1000;
 
-fn print_number(n: u32, after: &[u8]) {
-    io::print_decimal(1, n as u64);
-    io::write_all(1, after);
+fn print_number(rt: &impl Print, n: u32, after: &str) -> io::Result<()> {
+    print!(rt; "{n}{after}")
 }
 
 // The five words that the reply bytes spell.
-fn print_reply(reply: &[u8]) {
+fn print_reply(rt: &impl Print, reply: &[u8]) -> io::Result<()> {
     let mut words = [0u32; 5];
     read_words(reply, &mut words, 5);
-    print_number(words[0], b" ");
-    print_number(words[1], b" ");
-    print_number(words[2], b" ");
-    print_number(words[3], b" ");
-    print_number(words[4], b"\n");
+    print_number(rt, words[0], " ")?;
+    print_number(rt, words[1], " ")?;
+    print_number(rt, words[2], " ")?;
+    print_number(rt, words[3], " ")?;
+    print_number(rt, words[4], "\n")
 }
 
-fn main() {
-    let mut image = [0u8; MOST_BYTES];
+fn main(rt: HostRuntime) -> io::Result<()> {
+    let mut image = Vec::new(rt.alloc());
     let mut reply = [0u8; 20];
-    let length = io::read_full(0, &mut image);
-    check_query(&image[..length], BUDGET, &mut reply);
-    print_reply(&reply);
+    rt.reader().take(MOST_BYTES).read_to_end(&mut image)?;
+    check_query(&image, BUDGET, &mut reply);
+    print_reply(&rt, &reply)
 }

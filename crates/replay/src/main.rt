@@ -2,13 +2,15 @@
 // often as there are cases: `0, work, scratch, n, n words` (a check with so many words of scratch) or `1, set, 0, n, n words` (a
 // lookup). A check prints `kind operation a b used kept`, kept being 1 where the scratch is afterwards as promised; a lookup prints
 // the length of its part and then its words. A case that asks for more than there is room for prints `limit` and ends the run;
-// one that the input cuts off ends it too.
+// one that the input cuts off ends it too. Each line is written out as soon as it ends, before more input is read.
 #![tactic(auto)]
+
 use door::spelling::read_words;
 use lists::{get, put};
 use query::check::check;
 use query::needed::scratch_needed;
 use selection::arena::Reply;
+use std::io::{self, BufReader, ErrorKind, LineWriter, Read, Write};
 use tables::lookup::set_part;
 
 const MOST_BYTES: usize = 262144;
@@ -30,54 +32,65 @@ struct Case {
     n: u32,
 }
 
-fn read_case() -> Case {
+// Fills the bytes from the input; false where the input ends before.
+fn read_full<R: Read>(input: &mut R, bytes: &mut [u8]) -> io::Result<bool> {
+    match input.read_exact(bytes) {
+        Ok(()) => Ok(true),
+        Err(error) if error.kind() == ErrorKind::UnexpectedEof => Ok(false),
+        Err(error) => Err(error),
+    }
+}
+
+fn read_case<R: Read>(input: &mut R) -> io::Result<Case> {
     let mut bytes = [0u8; 16];
     let mut words = [0u32; 4];
-    let got = io::read_full(0, &mut bytes);
+    let is_there = read_full(input, &mut bytes)?;
     read_words(&bytes, &mut words, 4);
-    Case {
-        is_there: got == 16,
+    Ok(Case {
+        is_there,
         form: words[0],
         given: words[1],
         scratch: words[2],
         n: words[3],
-    }
+    })
 }
 
 // The next n words of the input, by way of lent bytes; and whether there are so many.
-fn read_image(bytes: &mut [u8], image: &mut [u32], n: u32) -> bool {
+fn read_image<R: Read>(
+    input: &mut R,
+    bytes: &mut [u8],
+    image: &mut [u32],
+    n: u32,
+) -> io::Result<bool> {
     let length = 4 * (n as usize);
     if bytes.len() < length {
-        return false;
+        return Ok(false);
     }
-    let got = io::read_full(0, &mut bytes[..length]);
+    let whole = read_full(input, &mut bytes[..length])?;
     read_words(bytes, image, n);
-    got == length
+    Ok(whole)
 }
 
-fn print_next(n: u32) {
-    io::write_all(1, b" ");
-    io::print_decimal(1, n as u64);
+fn print_next<W: Write>(out: &mut W, n: u32) -> io::Result<()> {
+    write!(out, " {n}")
 }
 
-fn print_reply(reply: Reply, kept: bool) {
-    io::print_decimal(1, reply.kind as u64);
-    print_next(reply.operation);
-    print_next(reply.a);
-    print_next(reply.b);
-    print_next(reply.used);
-    print_next(kept as u32);
-    io::write_all(1, b"\n");
+fn print_reply<W: Write>(out: &mut W, reply: Reply, kept: bool) -> io::Result<()> {
+    write!(out, "{}", reply.kind)?;
+    print_next(out, reply.operation)?;
+    print_next(out, reply.a)?;
+    print_next(out, reply.b)?;
+    print_next(out, reply.used)?;
+    print_next(out, kept as u32)?;
+    writeln!(out)
 }
 
-fn print_part(part: &[u32]) {
-    io::print_decimal(1, part.len() as u64);
-    let mut i = 0;
-    while i < part.len() {
-        print_next(get(part, i));
-        i += 1;
+fn print_part<W: Write>(out: &mut W, part: &[u32]) -> io::Result<()> {
+    write!(out, "{}", part.len())?;
+    for word in part {
+        print_next(out, *word)?;
     }
-    io::write_all(1, b"\n");
+    writeln!(out)
 }
 
 // What stands at a place of the scratch before a check: nowhere 0.
@@ -86,22 +99,18 @@ fn pattern(at: u32) -> u32 {
 }
 
 fn fill(scratch: &mut [u32], n: u32) {
-    let mut i: u32 = 0;
-    while i < n {
+    for i in 0..n {
         put(scratch, i as usize, pattern(i));
-        i += 1;
     }
 }
 
 // Whether the first words of the scratch are 0, so many of them, and all others as they were filled.
 fn is_kept(scratch: &[u32], n: u32, cleared: u64) -> bool {
-    let mut i: u32 = 0;
-    while i < n {
+    for i in 0..n {
         let promised = if (i as u64) < cleared { 0 } else { pattern(i) };
         if get(scratch, i as usize) != promised {
             return false;
         }
-        i += 1;
     }
     true
 }
@@ -114,64 +123,83 @@ fn words_cleared(image: &[u32], work: u32, kind: u32) -> u64 {
     scratch_needed(image, work)
 }
 
-fn replay_check(image: &[u32], work: u32, scratch: &mut [u32], n: u32) {
+fn replay_check<W: Write>(
+    out: &mut W,
+    image: &[u32],
+    work: u32,
+    scratch: &mut [u32],
+    n: u32,
+) -> io::Result<()> {
     fill(scratch, n);
     let reply = check(image, work, scratch);
     let cleared = words_cleared(image, work, reply.kind);
     let kept = is_kept(scratch, n, cleared);
-    print_reply(reply, kept);
+    print_reply(out, reply, kept)
 }
 
-fn replay(case: Case, image: &[u32], scratch: &mut [u32]) {
+fn replay<W: Write>(out: &mut W, case: Case, image: &[u32], scratch: &mut [u32]) -> io::Result<()> {
     if case.form == 0 {
-        replay_check(image, case.given, scratch, case.scratch);
+        replay_check(out, image, case.given, scratch, case.scratch)
     } else {
-        print_part(set_part(image, case.given));
+        print_part(out, set_part(image, case.given))
     }
 }
 
 // The end of a run that asks for more than there is room for.
-fn past_the_limit() -> bool {
-    io::write_all(1, b"limit\n");
-    false
+fn past_the_limit<W: Write>(out: &mut W) -> io::Result<bool> {
+    writeln!(out, "limit")?;
+    Ok(false)
 }
 
 // One case; whether the run goes on.
-fn replay_next(bytes: &mut [u8], image: &mut [u32], scratch: &mut [u32]) -> bool {
-    let case = read_case();
+fn replay_next<R: Read, W: Write>(
+    input: &mut R,
+    out: &mut W,
+    bytes: &mut [u8],
+    image: &mut [u32],
+    scratch: &mut [u32],
+) -> io::Result<bool> {
+    let case = read_case(input)?;
     let end = case.n as usize;
     let lent = case.scratch as usize;
     if case.is_there {
         if image.len() < end {
-            return past_the_limit();
+            return past_the_limit(out);
         }
         if scratch.len() < lent {
-            return past_the_limit();
+            return past_the_limit(out);
         }
-        let whole = read_image(bytes, image, case.n);
+        let whole = read_image(input, bytes, image, case.n)?;
         if whole {
-            replay(case, &image[..end], &mut scratch[..lent]);
+            replay(out, case, &image[..end], &mut scratch[..lent])?;
         }
-        return whole;
+        return Ok(whole);
     }
-    false
+    Ok(false)
 }
 
 // All cases of the input, by way of lent bytes and words.
-fn replay_all(bytes: &mut [u8], image: &mut [u32], scratch: &mut [u32]) {
-    let mut left = MOST_CASES;
-    while 0 < left {
-        if replay_next(bytes, image, scratch) {
-            left -= 1;
-        } else {
-            left = 0;
+fn replay_all<R: Read, W: Write>(
+    input: &mut R,
+    out: &mut W,
+    bytes: &mut [u8],
+    image: &mut [u32],
+    scratch: &mut [u32],
+) -> io::Result<()> {
+    for _ in 0..MOST_CASES {
+        if !replay_next(input, out, bytes, image, scratch)? {
+            break;
         }
     }
+    Ok(())
 }
 
-fn main() {
+fn main(rt: HostRuntime) -> io::Result<()> {
+    let alloc = rt.alloc();
     let mut bytes = [0u8; MOST_BYTES];
     let mut image = [0u32; MOST_WORDS];
     let mut scratch = [0u32; MOST_SCRATCH];
-    replay_all(&mut bytes, &mut image, &mut scratch);
+    let mut input = BufReader::new(alloc, rt.reader())?;
+    let mut out = LineWriter::new(alloc, io::writer(&rt))?;
+    replay_all(&mut input, &mut out, &mut bytes, &mut image, &mut scratch)
 }
