@@ -1,4 +1,4 @@
-"""Document 01's rule for equal runs: a reply beside what the crate says, in the domain or outside of it by a cause that is named."""
+"""The rule for equal runs: a reply beside what the crate says, in the domain or outside of it by a cause that is named."""
 from programs import tables
 
 LIMITS = {"RecursionError", "RecursionLimitError", "DeeplyNestedType"}
@@ -46,7 +46,7 @@ def is_among(reply, said, classes, with_operation=True):
 
 
 def judge(words, reply, said, others, classes, with_operation=True):
-    """None where both agree on 01's domain; else ("outside", cause) or ("differs", None)."""
+    """None where both agree in the domain; else ("outside", cause) or ("differs", None)."""
     agree = is_among(reply, said, classes, with_operation)
     kind = reply[0]
     if kind in (6, 7, 8):

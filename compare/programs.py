@@ -26,8 +26,8 @@ def missing(what):
 
 
 def need_replay():
-    if not (ROOT / "target/bin/replay").exists():
-        missing("target/bin/replay; `rt check replay` proves and builds it")
+    if not (ROOT / "crates/replay/out/replay").exists():
+        missing("crates/replay/out/replay; `rt run </dev/null` in crates/replay proves and builds it")
 
 
 def need_driver():

@@ -1,7 +1,8 @@
 #!/usr/bin/env python3
 """Runs the program `replay` over its stored cases and prints how many of its answers are the stored ones; exit 0 where all are.
 
-`rt` has built the program before. The stored answers are those of the open vectors and of the limits (tools/store_replay.py).
+`rt ci`, or `rt run` in crates/replay, has built the program before. The stored answers are those of the open vectors and of the limits
+(tools/store_replay.py).
 """
 import pathlib
 import subprocess

@@ -1,7 +1,7 @@
 #!/usr/bin/env python3
 """Hands odd and bad input to the built programs ponybluster and replay, and compares what they print.
 
-    tools/bad_input.py [ponybluster|replay]     after `rt check` of the programs; last line `N agree, M differ`
+    tools/bad_input.py [ponybluster|replay]     after `rt run` of the programs; last line `N agree, M differ`
 """
 import pathlib
 import subprocess

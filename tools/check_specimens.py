@@ -1,5 +1,5 @@
 #!/usr/bin/env python3
-"""Writes the specimens of the whole check: document 01's, a budget over the limit, and three on the walk's order, each with its budget, its scratch and
+"""Writes the specimens of the whole check: those that were asked for, a budget over the limit, and three on the walk's order, each with its budget, its scratch and
 the five numbers of its reply.
 
     tools/check_specimens.py > crates/query/specs/Specimens.antt
@@ -145,10 +145,9 @@ CASES = [
 
 HEAD = """-- Specimens of the whole check, document 01's, a budget over the limit, and three on the walk's order: images, budgets, scratch, and the five
 -- numbers of each reply. Written by tools/check_specimens.py. Assumes nothing.
-use Prim.Native.Nat.{ℕ}
-use mathlib.Core.List.{List, [], _∷_}
-use Rattle·selection.specs.declared.arena.Reply.{Reply}
-use Rattle·query·specs.specs.Reply.{answer}
+use Rattle.std.specs.Prelude.{ℕ, List, [], ◌∷◌}
+use Rattle.selection.specs.declared.arena.Reply.{Reply}
+use Rattle.query.specs.Reply.{answer}
 
 pub record Specimen : Type 0 where
   pub image : List ℕ

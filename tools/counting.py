@@ -11,9 +11,9 @@ import subprocess
 import tempfile
 
 ROOT = pathlib.Path(__file__).resolve().parent.parent
-KIT = pathlib.Path(os.environ.get("RATTLE_HOME") or pathlib.Path(shutil.which("rt")).resolve().parent.parent)
-LIB = KIT / "on/x86_64/toolchain/lib"
-REPLAY = [str(LIB / "ld-linux-x86-64.so.2"), "--library-path", str(LIB), str(ROOT / "target/bin/replay")]
+# The loader and the C library are the kit's, and not the system's: the same instructions on each machine.
+LIB = pathlib.Path(shutil.which("rt")).resolve().parent.parent / "toolchain/lib"
+REPLAY = [str(LIB / "ld-linux-x86-64.so.2"), "--library-path", str(LIB), str(ROOT / "crates/replay/out/replay")]
 PLAIN_STORES = {**os.environ, "GLIBC_TUNABLES": "glibc.cpu.x86_rep_stosb_threshold=100000000"}
 VALGRIND = ["valgrind", "--tool=cachegrind", "--cache-sim=no", "--cachegrind-out-file=/dev/null"]
 NATIVE = platform.machine() == "x86_64"
@@ -27,6 +27,7 @@ def output(command, given):
 @functools.cache
 def plugin():
     to = ROOT / "target/libcount.so"
+    to.parent.mkdir(exist_ok=True)
     subprocess.run(["cc", "-O2", "-shared", "-fPIC", "-o", str(to), str(ROOT / "tools/count.c")], check=True)
     return str(to)
 

@@ -1,5 +1,5 @@
 #!/usr/bin/env python3
-"""Images at the limits of document 01 and one past them, each with the reply that it must get.
+"""Images at the limits of the check and one past them, each with the reply that it must get.
 
     tools/limits.py     prints them in the form of the vector files, `work scratch kind operation a b used : words`
 """

@@ -1,7 +1,9 @@
 #!/usr/bin/env python3
 """Counts the x86-64 instructions of a check of each image of tools/worst_images.py, as tools/counting.py does it.
 
-    tools/measure.py [TITLE..]      prints `title size rows work kind operation a b used instructions`; `rt` has built `replay` before
+    tools/measure.py [TITLE..]      prints `title size rows work kind operation a b used instructions`
+
+`rt run` in crates/replay has built `replay` before.
 
 The budget is what the check uses, the scratch what that budget needs. The count is that of a run of two such cases less that of a run
 of one; taken off in the same way is a case that is refused for its budget (kind 2), which costs what `replay` does around a check.

@@ -4,8 +4,8 @@ tools/counting.py does it.
 
     tools/measure_limits.py LIBRARY [COMPILER]      prints `title size rows reply instructions`
 
-LIBRARY is the door's static library (`rt staticlib door`). `replay` does not take images so large: tools/limits_host.c lends the scratch.
-The count is that of three calls less that of two, with the budget that the check uses and the scratch that this needs.
+LIBRARY is the door's static library, which tools/native_library.sh writes. `replay` does not take images so large: tools/limits_host.c
+lends the scratch. The count is that of three calls less that of two, with the budget that the check uses and the scratch that this needs.
 """
 import pathlib
 import subprocess

@@ -1,12 +1,13 @@
 #!/usr/bin/env python3
 """Counts the instructions of a check of each image of tools/door_images.py, beside those of another program that does the same check.
 
-    tools/ratio.py COMMAND..                    prints `title rows reply ours theirs ratio`; `rt` has built `replay` before
+    tools/ratio.py COMMAND..                    prints `title rows reply ours theirs ratio`
     tools/ratio.py --vectors FOLDER COMMAND..   the vectors of kinds 0 and 14 to 17 in FOLDER's specimens.txt and generated.txt, as one
                                                 input: prints `cases rows used ours theirs ratio`
 
-COMMAND reads cases of the check as `replay` does, from standard input, and prints the same lines. Each case has the scratch that the
-door gives and the largest budget that this scratch allows. Counted as tools/measure.py does it.
+`rt run` in crates/replay has built `replay` before. COMMAND reads cases of the check as `replay` does, from standard input, and prints
+the same lines. Each case has the scratch that the door gives and the largest budget that this scratch allows. Counted as tools/measure.py
+does it.
 """
 import sys
 

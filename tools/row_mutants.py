@@ -3,7 +3,7 @@
 
     tools/row_mutants.py        prints how many there are and those that no specimen notices; status 1 if one of these is not excused here
 
-The row rules of document 01 are written here once more, each condition under a name. A mutant leaves one condition out, or moves one limit by
+The row rules are written here once more, each condition under a name. A mutant leaves one condition out, or moves one limit by
 one, up or down. A specimen notices it if the mutant shows something else than the specimen says.
 """
 import sys

@@ -106,15 +106,15 @@ class Long:
 
 
 def with_arguments(n):
-    return Long("withArguments", n, [(30 + i, 0, 0) for i in range(n)], [(INT, NONE, 7, 0)] * n)
+    return Long("with_arguments", n, [(30 + i, 0, 0) for i in range(n)], [(INT, NONE, 7, 0)] * n)
 
 
 def with_members(n):
-    return Long("withMembers", n, [(30, 0, 0)], [(OBJECT_VALUE, NONE, 1, n)] + [(INT, 50 + i, 7, 0) for i in range(n)])
+    return Long("with_members", n, [(30, 0, 0)], [(OBJECT_VALUE, NONE, 1, n)] + [(INT, 50 + i, 7, 0) for i in range(n)])
 
 
 def with_levels(n):
-    return Long("withLevels", n, [(30, 0, 0)], [(LIST_VALUE, NONE, 1 + i, 1) for i in range(n - 1)] + [(LIST_VALUE, NONE, n, 0)])
+    return Long("with_levels", n, [(30, 0, 0)], [(LIST_VALUE, NONE, 1 + i, 1) for i in range(n - 1)] + [(LIST_VALUE, NONE, n, 0)])
 
 
 def one_list(first, count):
@@ -232,9 +232,7 @@ CASES = [
 HEAD = """-- Images, what the row check shows of each, and where the selections of one set stand: 01's specimens of the tables, and a damaged
 -- image for each condition of the row rules; for each limit an image that just keeps it and one past it. One condition has no image of its
 -- own: that a leaf owns no set follows from two others. Written by tools/specimens.py. Assumes nothing.
-use Prim.Native.Nat.{ℕ, zero, suc, _+_, _-_, _*_}
-use mathlib.Core.List.{List, [], _∷_, _++_}
-use lib.ListN.{set}
+use Rattle.std.specs.Prelude.{ℕ, zero, suc, ◌+◌, ◌-◌, ◌*◌, List, [], ◌∷◌, ◌++◌, set}
 
 pub record Specimen : Type 0 where
   pub image : List ℕ
@@ -252,27 +250,27 @@ abbrev pub changed : List ℕ → (at word : ℕ) → List ℕ
 changed image at word = set image at word
 
 -- so many rows, each made of its number, which is counted from some number on
-abbrev pub rowsOf : (n from : ℕ) → (ℕ → List ℕ) → List ℕ
-rowsOf zero from row = []
-rowsOf (suc n) from row = row from ++ rowsOf n (suc from) row
+abbrev pub rows_of : (n from : ℕ) → (ℕ → List ℕ) → List ℕ
+rows_of zero from row = []
+rows_of (suc n) from row = row from ++ rows_of n (suc from) row
 
 -- `{a}` with so many arguments and values, whose rows follow
-abbrev pub fieldWith : (n m : ℕ) → List ℕ → List ℕ
-fieldWith n m rows =
+abbrev pub field_with : (n m : ℕ) → List ℕ → List ℕ
+field_with n m rows =
     1 ∷ (42 + 3 * n + 4 * m) ∷ 2 ∷ 20 ∷ 1 ∷ 24 ∷ 1 ∷ 26 ∷ 0 ∷ 30 ∷ 1 ∷ 30 ∷ 1 ∷ 33 ∷ n ∷ 42 ∷ m ∷ (42 + 3 * n) ∷ 0 ∷ (42 + 3 * n + 4 * m) ∷
     10 ∷ 0 ∷ 11 ∷ 1 ∷ 0 ∷ 0 ∷ 0 ∷ 0 ∷ 0 ∷ 0 ∷ 1 ∷ 0 ∷ 1 ∷ 0 ∷ 20 ∷ 20 ∷ 0 ∷ 0 ∷ n ∷ 4294967295 ∷ 0 ∷ 0 ∷ rows
 
 -- a field with n arguments
-abbrev pub withArguments : ℕ → List ℕ
-withArguments n = fieldWith n n (rowsOf n 30 (λ i. i ∷ 0 ∷ 0 ∷ []) ++ rowsOf n 0 (λ i. 2 ∷ 4294967295 ∷ 7 ∷ 0 ∷ []))
+abbrev pub with_arguments : ℕ → List ℕ
+with_arguments n = field_with n n (rows_of n 30 (λ i. i ∷ 0 ∷ 0 ∷ []) ++ rows_of n 0 (λ i. 2 ∷ 4294967295 ∷ 7 ∷ 0 ∷ []))
 
 -- an argument whose value is an object of n members
-abbrev pub withMembers : ℕ → List ℕ
-withMembers n = fieldWith 1 (1 + n) (30 ∷ 0 ∷ 0 ∷ 8 ∷ 4294967295 ∷ 1 ∷ n ∷ rowsOf n 50 (λ i. 2 ∷ i ∷ 7 ∷ 0 ∷ []))
+abbrev pub with_members : ℕ → List ℕ
+with_members n = field_with 1 (1 + n) (30 ∷ 0 ∷ 0 ∷ 8 ∷ 4294967295 ∷ 1 ∷ n ∷ rows_of n 50 (λ i. 2 ∷ i ∷ 7 ∷ 0 ∷ []))
 
 -- an argument whose value is lists in each other, n levels of them; the innermost is empty
-abbrev pub withLevels : ℕ → List ℕ
-withLevels n = fieldWith 1 n (30 ∷ 0 ∷ 0 ∷ (rowsOf (n - 1) 1 (λ i. 7 ∷ 4294967295 ∷ i ∷ 1 ∷ []) ++ (7 ∷ 4294967295 ∷ n ∷ 0 ∷ [])))
+abbrev pub with_levels : ℕ → List ℕ
+with_levels n = field_with 1 n (30 ∷ 0 ∷ 0 ∷ (rows_of (n - 1) 1 (λ i. 7 ∷ 4294967295 ∷ i ∷ 1 ∷ []) ++ (7 ∷ 4294967295 ∷ n ∷ 0 ∷ [])))
 
 """
 

@@ -6,9 +6,9 @@
     tools/times.py --hostile LIBRARY OTHER [TITLE..]    those of HOSTILE and AT_THE_DOOR in tools/worst_images.py, with the budget that is used
                                                         and the scratch that this needs: prints `title size rows bytes`, then the same
 
-LIBRARY is the door's static library for this machine: on x86-64 what `rt staticlib door` writes, elsewhere what tools/native_library.sh writes. OTHER is
-a static library for this machine that exports `void other_check(const uint32_t *image, size_t image_words, uint32_t budget, size_t scratch_words,
-uint32_t *reply)`; what it must be linked with besides stands in the variable LINK.
+LIBRARY is the door's static library, which tools/native_library.sh writes. OTHER is a static library that exports `void other_check(const
+uint32_t *image, size_t image_words, uint32_t budget, size_t scratch_words, uint32_t *reply)`; what it must be linked with besides stands in
+the variable LINK.
 """
 import os
 import pathlib

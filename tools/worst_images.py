@@ -1,5 +1,5 @@
 #!/usr/bin/env python3
-"""Large images, one or more for each limit of document 01 that a check's time could grow with, each in three sizes.
+"""Large images, one or more for each limit of the check that a check's time could grow with, each in three sizes.
 
     tools/worst_images.py                       prints `title size rows words`, one line for each
     tools/worst_images.py TITLE SIZE WORK       writes that case, with that budget, as the program `replay` reads it

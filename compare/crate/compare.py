@@ -1,12 +1,13 @@
 #!/usr/bin/env python3
-"""Random documents by seed through the proved program and through the crate, compared as document 01's domain says.
+"""Random documents by seed through the proved program and through the crate, compared in the domain where both must agree (docs/DIFFERENCES.md).
 
     compare/crate/compare.py [N] [FROM] [--large L] [--images K] [--texts M] [--oracle FOLDER]
 
 N documents (default 100000) of compare/plants.py with the seeds FROM (default 0) to FROM + N - 1; with seeds from 0 on L large ones (default
 0) of some hundreds of selections, K images that the generator of FOLDER (default ../shared/oracle) makes without a row fault, odd ones that
 no document gives among them, and M documents that it writes as GraphQL text and packs, which needs graphql-core 3.
-Needs target/bin/replay (`rt check replay`) and target/compare/crate_driver (`compare/crate/build.sh`). Exit 0 where nothing differs.
+Needs the program replay (`rt run` in crates/replay) and target/compare/crate_driver (`compare/crate/build.sh`). Exit 0 where
+nothing differs.
 """
 import argparse
 import collections

@@ -5,7 +5,7 @@
 
 Prints for each what the proved program answers (kind operation a b) and what the crate says: by its functions called one by one, and by
 its own way through the document. Exit 1 where that is not what docs/DIFFERENCES.md rests on, which is stored beside each case here.
-Needs target/bin/replay (`rt check replay`) and target/compare/crate_driver (`compare/crate/build.sh`).
+Needs the program replay (`rt run` in crates/replay) and target/compare/crate_driver (`compare/crate/build.sh`).
 """
 import sys
 from pathlib import Path

@@ -8,7 +8,8 @@ are tried here, and some of this file's own. Two numbers are printed for each: t
 whose document shows it beside the crate, compared as compare/crate/compare.py does, and the first that shows it beside the proved program's
 reply. A mistake in charges, in which of several true causes is named first, or that the crate makes too, cannot show beside the crate. One
 that makes the implementation fail or run on is found.
-Needs target/bin/replay (`rt check replay`) and target/compare/crate_driver (`compare/crate/build.sh`). Exit 1 where one is not found.
+Needs the program replay (`rt run` in crates/replay) and target/compare/crate_driver (`compare/crate/build.sh`). Exit 1 where
+one is not found.
 """
 import argparse
 import ast

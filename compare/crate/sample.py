@@ -1,5 +1,5 @@
 #!/usr/bin/env python3
-"""Replays a stored sample of the crate's answers against the proved program. It needs python3 and target/bin/replay, and no Rust.
+"""Replays a stored sample of the crate's answers against the proved program. It needs python3 and the program replay, and no Rust.
 
     compare/crate/sample.py                 replays compare/crate/sample.txt; exit 1 where an answer differs
     compare/crate/sample.py --write         writes that file: needs target/compare/crate_driver (compare/crate/build.sh) too

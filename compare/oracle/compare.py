@@ -12,7 +12,7 @@ FOLDER (default ../shared/oracle) has the oracle check.py, and gen.py. Streams, 
     lookups      the lookup of a set's selections, on images and damaged images (N / 5)
 The budget is ample, or at, one below or one above what the oracle charges, or random, 0 or too large; the scratch is what is needed, one
 word short, or more. Counts by kind are printed, and the first disagreement as a vector line. Exit 0 where there is none.
-Needs target/bin/replay (`rt check replay`).
+Needs the program replay (`rt run` in crates/replay).
 """
 import argparse
 import collections

@@ -4,9 +4,9 @@
     compare/peers/run.py [--oracle FOLDER]
 
 FOLDER (default ../shared/oracle) has the oracle check.py and pack.py, which packs texts and needs graphql-core 3 (tried with 3.2.8). Needs
-target/bin/replay (`rt check replay`); the crate's column needs target/compare/crate_driver (`compare/crate/build.sh`) and is empty without it.
-texts.txt has for each text its name, the rule it is about, and the kind that the proved program must answer. Exit 1 where that, or the
-oracle, differs.
+the program replay (`rt run` in crates/replay); the crate's column needs target/compare/crate_driver (`compare/crate/build.sh`) and is empty
+without it. texts.txt has for each text its name, the rule it is about, and the kind that the proved program must answer. Exit 1 where
+that, or the oracle, differs.
 """
 import argparse
 import sys

@@ -3,8 +3,7 @@
  * A case is `0, budget, scratch, n, n words`, all as little-endian words. A line is `kind operation a b used kept`.
  */
 import { spawn } from 'node:child_process';
-import { accessSync, constants, existsSync } from 'node:fs';
-import path from 'node:path';
+import { existsSync } from 'node:fs';
 import { fileURLToPath } from 'node:url';
 import { asBytes, rowCount, scratchNeeded } from './image.mjs';
 
@@ -24,28 +23,11 @@ export function programCommand(environment = process.env) {
     if (!existsSync(named)) throw new EngineError(`there is no program ${named} (the environment names it as PONYBLUSTER_REPLAY)`);
     return [named];
   }
-  if (!existsSync(inProject('target/bin/replay'))) {
-    throw new EngineError('the proved program replay is not built: desk/setup builds it (or `rt check replay`)');
+  const built = fileURLToPath(new URL('../../crates/replay/out/replay', import.meta.url));
+  if (!existsSync(built)) {
+    throw new EngineError('the proved program replay is not built: desk/setup builds it (or `rt run </dev/null` in crates/replay)');
   }
-  if (!environment.RATTLE_HOME && !onPath('rt', environment.PATH)) {
-    throw new EngineError('the proved program needs the Rattle kit to run: rt is not on the PATH');
-  }
-  return [inProject('tools/program'), 'replay'];
-}
-
-function inProject(name) {
-  return fileURLToPath(new URL(`../../${name}`, import.meta.url));
-}
-
-function onPath(name, folders = '') {
-  return folders.split(path.delimiter).some((folder) => {
-    try {
-      accessSync(path.join(folder, name), constants.X_OK);
-      return true;
-    } catch {
-      return false;
-    }
-  });
+  return [built];
 }
 
 export class Engine {

@@ -7,15 +7,14 @@ import { test } from 'node:test';
 import { DESK, folderOf, run } from './support/command.mjs';
 
 const ROOT = path.join(DESK, '..');
-const isBuilt = ['ponybluster', 'replay'].every((name) => existsSync(path.join(ROOT, 'target/bin', name)));
+const isBuilt = ['ponybluster', 'replay'].every((name) => existsSync(path.join(ROOT, 'crates', name, 'out', name)));
 const needs = { skip: isBuilt ? false : 'the programs are not built: ./run was not tried' };
 
-/** The environment with an `rt` that does nothing, and the kit where the real one has it. */
+/** The environment with an `rt` that does nothing. */
 function environment() {
   const folder = folderOf({});
   writeFileSync(path.join(folder, 'rt'), '#!/bin/sh\n', { mode: 0o755 });
-  const kit = spawnSync('bash', ['-c', 'dirname "$(dirname "$(readlink -f "$(command -v rt)")")"'], { encoding: 'utf8' }).stdout.trim();
-  return { ...process.env, RATTLE_HOME: process.env.RATTLE_HOME ?? kit, PATH: `${folder}:${process.env.PATH}` };
+  return { ...process.env, PATH: `${folder}:${process.env.PATH}` };
 }
 
 const CONFLICT = `16 0 8 3 23

@@ -1,4 +1,4 @@
-//! SHIM: drives the crate's checks over a document and lists what they say, as document 01's kinds and rows.
+//! SHIM: drives the crate's checks over a document and lists what they say, as the kinds and rows of a reply.
 use crate::ast;
 use crate::executable::{ExecutableDocument, Field, Operation, Selection, SelectionSet};
 use crate::image::{Read, NONE, PLACES};
@@ -32,7 +32,7 @@ impl Said {
     }
 }
 
-/// The crate's checks, each called by itself in document 01's order, cycles of every fragment among them; the merge walk of each operation
+/// The crate's checks, each called by itself in the order of kinds, cycles of every fragment among them; the merge walk of each operation
 /// begins with nothing known.
 pub fn by_function(read: &Read) -> Said {
     let (schema, document) = (&read.schema, &read.document);
