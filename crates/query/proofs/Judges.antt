@@ -85,7 +85,7 @@ module _ {image : List ℕ} {work : ℕ} where
 
     pub by_document : {s' : List ℕ} {p : Reply} → r ≡ rows.Good → JudgesDocument image work s s' p → JudgesImage image work s s' p
     unfolding faulty ◌▷◌
-    by_document good judged = record { long = judged.long; says = let None-found = ap rows_show (sym good) ∙ rows_shown in rw (← None-found) judged.says }
+    by_document good judged = record { long = judged.long; says = let none_found = ap rows_show (sym good) ∙ rows_shown in rw (← none_found) judged.says }
 
 -- ---- the whole
 module _ (image : List ℕ) (work : ℕ) where

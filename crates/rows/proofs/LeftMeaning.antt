@@ -51,7 +51,7 @@ module _ (image : List ℕ) (good : GoodBelow image 9) where
 
       go : (b : Bool) → owns_set (selection_at image n) ≡ b → next_set image n ≤ s → IsOwned image s
       go true owns from = by_selection n few ((owner_means image n).0 owns) (omega (arith, number n few owns, more true owns))
-      go false Owns-none from = absurd (omega (arith, more false Owns-none))
+      go false owning_none from = absurd (omega (arith, more false owning_none))
 
   pub sets_exactly : (count_at image sets ≤ next_set image (count_at image selections)) ↔ NoSetLeft image
   sets_exactly = (says, λ all. all_below _ _ (λ s h. taken s (all s h)))

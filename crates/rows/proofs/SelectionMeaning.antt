@@ -357,7 +357,7 @@ module _ (image : List ℕ) (below : GoodBelow image 5) where
         where
           go : (b : Bool) → owns_set row ≡ b → selection_rule image row (next_set image r) (least_owned image r) ≡ true
           go true owns = sym (good_owning image row _ _ itself_holds owns) ∙ owned_holds ((owner_means image r).0 owns)
-          go false Owns-none = sym (good_owning_none image row _ _ itself_holds Owns-none)
+          go false owning_none = sym (good_owning_none image row _ _ itself_holds owning_none)
 
     pub selection_exactly : (good_selection image r ≡ true) ↔ KeepsSelection image r
     selection_exactly = (selection_says, selection_holds)
