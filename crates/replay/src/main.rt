@@ -2,7 +2,7 @@
 // often as there are cases: `0, work, scratch, n, n words` (a check with so many words of scratch) or `1, set, 0, n, n words` (a
 // lookup). A check prints `kind operation a b used kept`, kept being 1 where the scratch is afterwards as promised; a lookup prints
 // the length of its part and then its words. A case that asks for more than there is room for prints `limit` and ends the run;
-// one that the input cuts off ends it too. Each line is written out as soon as it ends, before more input is read.
+// one that the input cuts off ends it too. What is printed is written at once, before more input is read.
 #![tactic(auto)]
 
 use door::spelling::read_words;
@@ -10,7 +10,7 @@ use lists::{get, put};
 use query::check::check;
 use query::needed::scratch_needed;
 use selection::arena::Reply;
-use std::io::{self, BufReader, ErrorKind, LineWriter, Read, Write};
+use std::io::{self, ErrorKind, Read, Write};
 use tables::lookup::set_part;
 
 const MOST_BYTES: usize = 262144;
@@ -195,11 +195,14 @@ fn replay_all<R: Read, W: Write>(
 }
 
 fn main(rt: HostRuntime) -> io::Result<()> {
-    let alloc = rt.alloc();
     let mut bytes = [0u8; MOST_BYTES];
     let mut image = [0u32; MOST_WORDS];
     let mut scratch = [0u32; MOST_SCRATCH];
-    let mut input = BufReader::new(alloc, rt.reader())?;
-    let mut out = LineWriter::new(alloc, io::writer(&rt))?;
-    replay_all(&mut input, &mut out, &mut bytes, &mut image, &mut scratch)
+    replay_all(
+        &mut rt.reader(),
+        &mut io::writer(&rt),
+        &mut bytes,
+        &mut image,
+        &mut scratch,
+    )
 }
