@@ -143,7 +143,7 @@ CASES = [
     ("`{a{x} a{x}}`, T and T!, String and String!: the outer pair comes first", SHAPE_OVER_SHAPE, 100, 5136, (14, 0, 0, 1, 3)),
 ]
 
-HEAD = """-- Specimens of the whole check, document 01's, a budget over the limit, and three on the walk's order: images, budgets, scratch, and the five
+HEAD = """-- Specimens of the whole check, a budget over the limit, and three on the walk's order: images, budgets, scratch, and the five
 -- numbers of each reply. Written by tools/check_specimens.py. Assumes nothing.
 use Rattle.std.specs.Prelude.{ℕ, List, [], ◌∷◌}
 use Rattle.selection.specs.declared.arena.Reply.{Reply}

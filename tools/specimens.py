@@ -59,7 +59,7 @@ INLINES = {
 # the images that others are made of
 BASES = {"small": FIELD_A, "whole": WHOLE, "inlines": INLINES}
 SAYS = {
-    "small": "document 01's specimen `{a}`",
+    "small": "the specimen `{a}`",
     "whole": "a query with a row of every kind",
     "inlines": "an operation on an object, whose set has two inlines that own a set each, the first on a union",
 }
@@ -229,7 +229,7 @@ CASES = [
     ("a value that nothing claims", {"values": [(INT, NONE, 8, 0)]}, (4, 7, 1), (0, 24, 0)),
 ]
 
-HEAD = """-- Images, what the row check shows of each, and where the selections of one set stand: 01's specimens of the tables, and a damaged
+HEAD = """-- Images, what the row check shows of each, and where the selections of one set stand: specimens of the tables, and a damaged
 -- image for each condition of the row rules; for each limit an image that just keeps it and one past it. One condition has no image of its
 -- own: that a leaf owns no set follows from two others. Written by tools/specimens.py. Assumes nothing.
 use Rattle.std.specs.Prelude.{ℕ, zero, suc, ◌+◌, ◌-◌, ◌*◌, List, [], ◌∷◌, ◌++◌, set}

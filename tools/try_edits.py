@@ -34,7 +34,7 @@ REFUSED = "refused at a fact"
 ERROR = re.compile(r"^(note: )?(?:\./)?(\S+?):(\d+):\d+: ((?:error: |it is not proved).*(?:\n  .*)*)", re.M)
 # what a proof says that no longer fits, and what only follows from another error
 GONE = re.compile(r"is not in scope|exports no such name|has no field|has no `|binders, but its type has room")
-FOLLOWS = re.compile(r"was not admitted")
+FOLLOWS = re.compile(r"which was (not admitted|rejected)")
 FALSE_AT = re.compile(r"allow values at which")
 UNREAD = re.compile(r"is not in scope|has no field|is no name|operand is missing|expected the end|cannot continue")
 LIMIT = re.compile(r"antt ran out of|outgrew the memory limit|stopped at the step limit")
@@ -80,9 +80,10 @@ def copy_crates(copy):
             shutil.copy(ROOT / name, copy / name)
 
 
-def proof_of(path):
-    """The folder of a function's proof, or a file of lemmas."""
-    return path.rsplit("/", 1)[0] if path.count("/") > 1 else path
+def proof_of(error):
+    """The folder of a function's proof; of lemmas, which do not follow the code's shape, the one place."""
+    path, line = error[1:3]
+    return path.rsplit("/", 1)[0] if path.count("/") > 1 else f"{path}:{line}"
 
 
 def is_unread(path, text, changed):
@@ -103,12 +104,12 @@ def judged(status, out, changed):
     unread = [e for e in errors if is_unread(e[1], e[3], changed)]
     if unread or "\nlogic=not-proved" not in out:
         return "BAD EDIT" if status == 1 else "NOT TRIED", said(unread[0]) if unread else out[:400]
-    gone = {proof_of(e[1]) for e in errors if not e[0] and GONE.search(e[3])}
+    gone = {proof_of(e) for e in errors if not e[0] and GONE.search(e[3].split("\n")[0])}
     for error in errors:
-        note, path, _, text = error
+        note, _, _, text = error
         if FOLLOWS.search(text):
             continue
-        if (FALSE_AT.search(text) or not gone) if note else proof_of(path) not in gone:
+        if (FALSE_AT.search(text) or not gone) if note else proof_of(error) not in gone:
             return None, said(error)
     return "NO FACT", said(errors[0]) if errors else out[-400:]
 

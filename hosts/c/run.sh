@@ -2,7 +2,7 @@
 # Builds the door's library and the C example, and runs the example on an image.
 #   hosts/c/run.sh [IMAGE]      (default: examples/primer.img)
 # With a C compiler for x86-64 (cc there, x86_64-linux-gnu-gcc elsewhere, or what CC names) the example is linked as any C program.
-# Without one, or with CC empty, the kit's compiler and linker do it, with the few declarations in hosts/c/kit.
+# Without one, or with CC empty, the kit's compiler and linker do it on x86-64, with the few declarations in hosts/c/kit.
 set -euo pipefail
 image=$(readlink -f "${1:-$(dirname "$0")/../../examples/primer.img}")
 cd "$(dirname "$0")/../.."

@@ -1,4 +1,4 @@
--- What the door returns and writes (document 01, "The door and the program"). Assumes nothing.
+-- What the door returns and writes. Assumes nothing.
 use Rattle.std.specs.Prelude.{ℕ, ◌%◌, ◌/◌, min, cond, List, [], ◌∷◌, ◌++◌, leb, eqb, length}
 use Rattle.tables.specs.Layout.{NONE}
 use Rattle.selection.specs.declared.arena.Reply.{Reply}

@@ -1,4 +1,4 @@
--- Chains of links: the ways down from a set, selection by selection, and what is counted along them (document 01, kinds 6 to 8).
+-- Chains of links: the ways down from a set, selection by selection, and what is counted along them (kinds 6 to 8).
 -- Relations over the rows of an image, without fuel. Assumes nothing.
 use Rattle.std.specs.Prelude.{ℕ, ◌+◌, ◌≤◌, ◌≡◌, Bool, true, cond, not, ◌&&◌, List, [], ◌∷◌, eqb}
 use Rattle.tables.specs.Layout.{NONE}

@@ -1,4 +1,4 @@
--- Heights: how many selections count at most in a chain from a set, each number cut off one past its limit (document 01, kinds 6
+-- Heights: how many selections count at most in a chain from a set, each number cut off one past its limit (kinds 6
 -- to 8). `height_in` has fuel: proofs/Exact has the law that `enough` steps suffice.
 -- Assumes nothing.
 use Rattle.std.specs.Prelude.{ℕ, zero, suc, ◌+◌, ◌*◌, min, max, Bool, cond, List, eqb}

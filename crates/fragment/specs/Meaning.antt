@@ -1,5 +1,5 @@
 -- What kinds 5 to 9 stand for, as relations over the rows of an image, without fuel: the rules of the GraphQL specification, October
--- 2021, with their numbers and words, and the limits of document 01.
+-- 2021, with their numbers and words, and the limits.
 -- Assumes nothing.
 use Rattle.std.specs.Prelude.{ℕ, suc, ◌<◌, ◌≤◌, ◌≡◌, Bool, List}
 use Rattle.std.proofs.Math.Option.{Option, none, some}
@@ -45,14 +45,14 @@ pub record SpreadSomewhere (image : List ℕ) (f : ℕ) : Type 0 where
 abbrev pub AllSpread : List ℕ → Type 0
 AllSpread image = (f : ℕ) → f < count_at image fragments → SpreadSomewhere image f
 
--- document 01 goes by reach: a spread of f stands in a set that an operation reaches
+-- kind 9 goes by reach: a spread of f stands in a set that an operation reaches
 abbrev pub Reached : List ℕ → ℕ → Type 0
 Reached image f = SpreadFrom image (operation_sets image) f
 
 abbrev pub AllReached : List ℕ → Type 0
 AllReached image = (f : ℕ) → f < count_at image fragments → Reached image f
 
--- ---- the limits of document 01
+-- ---- the limits
 
 -- 6: a chain of over 100 fragments, itself counted: 100 spreads lead from it to 100 more
 abbrev pub LongChain : List ℕ → ℕ → Type 0

@@ -1,5 +1,5 @@
 -- Kinds 5 to 9 as executable definitions: whether a fragment or an operation breaks a rule, the lowest that does, and the kinds in their
--- order (document 01, the table of kinds). What they mean is in specs/Meaning.
+-- order (the table of kinds). What they mean is in specs/Meaning.
 -- Assumes nothing.
 use Rattle.std.specs.Prelude.{ℕ, ◌*◌, min, Bool, not, List, eqb, leb, ltb, length, get_or, replicate}
 use Rattle.std.proofs.Math.Option.{Option, none, some}
@@ -24,7 +24,7 @@ pub record Refusal : Type 0 where
 abbrev pub refusal : (kind operation a : ℕ) → Refusal
 refusal kind operation a = record { kind = kind; operation = operation; a = a }
 
--- the answer of the rules, as the paper numbers it
+-- the answer of the rules, by its number
 abbrev pub fragments_show : Fragments → Option Refusal
 fragments_show Good = none
 fragments_show (Wrong kind operation a) = some (refusal kind operation a)

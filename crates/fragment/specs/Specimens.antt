@@ -1,4 +1,4 @@
--- Specimens of kinds 5 and 9: images, and what is shown of them (document 01, "Specimens"). Each has one object type, whose sets hold
+-- Specimens of kinds 5 and 9: images, and what is shown of them. Each has one object type, whose sets hold
 -- nothing but spreads.
 -- Assumes nothing.
 use Rattle.std.specs.Prelude.{ℕ, List, [], ◌∷◌}

@@ -214,7 +214,7 @@ module _ (D : Document) {At : ℕ → Type 0} (S : Sound D At) (budget used s : 
   pub decides_distinct : ¬ IsOut (check D budget used s) → IsFinished (check D budget used s) ↔ RuleHolds≢ D s
   decides_distinct h = (λ t. (distinct_rule D S at).0 ((decides h).0 t), λ rule. (decides h).1 ((distinct_rule D S at).1 rule))
 
--- The specification's rule and 01's chains say the same: the rule holds exactly if no two fields truly conflict.
+-- The specification's rule and the chains of fields say the same: the rule holds exactly if no two fields truly conflict.
 pub rule_by_chains : (D : Document) {At : ℕ → Type 0} (S : Sound D At) (s : ℕ) → At s
     → RuleHolds D s ↔ ((c : Cause) (a b : ℕ) → ¬ TrueConflict D s c a b)
 rule_by_chains D S s at =

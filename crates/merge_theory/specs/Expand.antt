@@ -1,4 +1,4 @@
--- The fields of merged selection sets, as a relation and by the queue of 01 ("Expanding"). Assumes nothing.
+-- The fields of merged selection sets, as a relation and by the queue. Assumes nothing.
 use Rattle.std.specs.Prelude.{not, List, [], ◌∷◌, ◌++◌, ℕ, zero, suc}
 use Rattle.merge_theory.specs.Lists.{◌∈◌, flat_map, filter, is_in}
 use Rattle.merge_theory.specs.Document.{Kind, field, spread, inline, Document, is_field, IsField, NoField, set_of}

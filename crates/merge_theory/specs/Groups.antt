@@ -1,4 +1,4 @@
--- The groups and subgroups of a list of fields, as 01 orders them ("The merge walk"). Assumes nothing.
+-- The groups and subgroups of a list of fields, in the order of the walk. Assumes nothing.
 use Rattle.std.specs.Prelude.{not, List, [], ◌∷◌, ◌++◌, map, ℕ, eqb}
 use Rattle.merge_theory.specs.Lists.{filter, distinct}
 use Rattle.merge_theory.specs.Document.{Document}

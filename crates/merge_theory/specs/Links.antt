@@ -1,5 +1,5 @@
 -- The most links that a chain of rows from a set has, counted up to a bound: the number that kind 7 keeps small. Only rows that lead to a
--- set count; 01 counts a leaf field too, so this is never more than its number. Assumes nothing.
+-- set count; kind 7 counts a leaf field too, so this is never more than its number. Assumes nothing.
 use Rattle.std.specs.Prelude.{List, [], ◌∷◌, ℕ, zero, suc, max}
 use Rattle.merge_theory.specs.Lists.{flat_map}
 use Rattle.merge_theory.specs.Document.{Document, set_of}

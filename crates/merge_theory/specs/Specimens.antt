@@ -1,4 +1,4 @@
--- 01's specimens that concern the walk, and more of queue, order and charge: documents given by tables, and one table of replies that
+-- Specimens that concern the walk, and more of queue, order and charge: documents given by tables, and one table of replies that
 -- antt computes. Assumes nothing.
 use Rattle.std.specs.Prelude.{◌≡◌, refl, Bool, true, false, List, [], ◌∷◌, map, ℕ, eqb, length, get_or}
 use Rattle.std.proofs.Math.Option.{Option, none, some}
@@ -97,14 +97,14 @@ inner_pair = record {
 abbrev pub with_type : ℕ → Row
 with_type t = record { kind = field; response = 1; own = 1; type = t; args = 0; link = none; parent = 0 }
 
-abbrev pub with_arguments_lem : ℕ → Row
-with_arguments_lem x = record { kind = field; response = 1; own = 1; type = 0; args = x; link = none; parent = 0 }
+abbrev pub row_with_arguments : ℕ → Row
+row_with_arguments x = record { kind = field; response = 1; own = 1; type = 0; args = x; link = none; parent = 0 }
 
 abbrev pub two_types : Tables
 two_types = record { sets = (0 ∷ 1 ∷ 2 ∷ []) ∷ []; rows = with_type 3 ∷ with_type 3 ∷ with_type 4 ∷ []; objects = true ∷ [] }
 
 abbrev pub two_arguments : Tables
-two_arguments = record { sets = (0 ∷ 1 ∷ []) ∷ []; rows = with_arguments_lem 3 ∷ with_arguments_lem 4 ∷ []; objects = true ∷ [] }
+two_arguments = record { sets = (0 ∷ 1 ∷ []) ∷ []; rows = row_with_arguments 3 ∷ row_with_arguments 4 ∷ []; objects = true ∷ [] }
 
 -- {...F ...F}, F {c}: the fragment is queued once, so that its list is of one field
 abbrev fragment_twice : Tables
@@ -225,13 +225,13 @@ replies : map run table ≡ map expected table
 unfolding computes
 replies = refl
 
--- ---- listings (02, b)
+-- ---- listings
 
 -- three fields of one name with three lists of arguments
 abbrev three_arguments : Tables
 three_arguments = record {
   sets = (0 ∷ 1 ∷ 2 ∷ []) ∷ [];
-  rows = with_arguments_lem 3 ∷ with_arguments_lem 4 ∷ with_arguments_lem 5 ∷ [];
+  rows = row_with_arguments 3 ∷ row_with_arguments 4 ∷ row_with_arguments 5 ∷ [];
   objects = true ∷ [];
 }
 

@@ -1,4 +1,4 @@
--- True conflicts, by chains of fields (01, "The merge walk", last paragraph). Assumes nothing.
+-- True conflicts, by chains of fields. Assumes nothing.
 use Rattle.std.specs.Prelude.{not, [], ◌∷◌, ℕ, T}
 use Rattle.merge_theory.specs.Document.{Document, Cause, shape, name, arguments, set_of}
 use Rattle.merge_theory.specs.Expand.{FieldIn}

@@ -1,4 +1,4 @@
--- The merge walk of 01 as a function: two passes over groups, known lists, charges; and the listing of request b, which is the same walk
+-- The merge walk as a function: two passes over groups, known lists, charges; and the listing, which is the same walk
 -- with another hand on conflicts. Assumes nothing.
 use Rattle.std.specs.Prelude.{Bool, true, false, List, [], ◌∷◌, ◌++◌, ℕ, zero, suc, ◌+◌, length}
 use Rattle.std.proofs.Math.Option.{Option, none, some}

@@ -30,7 +30,7 @@ use Rattle.fragment.proofs.Theorems.{fragments_decided}
 use Rattle.selection.specs.declared.arena.Reply.{Reply}
 use Rattle.query.specs.Stages.{Stage, at_rows, at_fragments, at_variables, at_comparison, at_charge, at_end, place}
 use Rattle.query.specs.Reply.{document_of, reply_by}
-use Rattle.query.specs.Given.{Sane, Ran, ran_more, Enough, ComesTo, Given, bad_header, over_limit, short_scratch, bad_row_lem, bad_fragments, bad_variables, a_conflict, budget_spent, passes}
+use Rattle.query.specs.Given.{Sane, Ran, ran_more, Enough, ComesTo, Given, bad_header, over_limit, short_scratch, bad_rows, bad_fragments, bad_variables, a_conflict, budget_spent, passes}
 use Rattle.query.specs.Right.{NoCause, Covers, AllMerge, FirstInShape, AllRight}
 use Rattle.query.proofs.Soundness.{operation_sound}
 use Rattle.query.proofs.ShownKinds.{row_shown, no_cause_0}
@@ -79,7 +79,7 @@ module _ (run : Engine) (E : Decides run) (image : List ℕ) (work long : ℕ) w
   -- ---- the stage tells which rule fails, and where
 
   pub rows_of : (r : Reply) → Given run image work long at_rows r → BrokenAt image r.a r.b
-  rows_of r (bad_row_lem {r = x} h w e) = (row_fault_exactly image h x.a x.b).0 (e ∙ ap some (row_shown image e))
+  rows_of r (bad_rows {r = x} h w e) = (row_fault_exactly image h x.a x.b).0 (e ∙ ap some (row_shown image e))
 
   pub fragments_of : (r : Reply) → Given run image work long at_fragments r → Finds image (some (fragment.refusal r.kind r.operation r.a))
   fragments_of r (bad_fragments h w o e) = subst (Finds image) e (fragments_decided (rows_good h o))
@@ -92,7 +92,7 @@ module _ (run : Engine) (E : Decides run) (image : List ℕ) (work long : ℕ) w
   sane_of r past (bad_header e) = absurd (omega arith)
   sane_of r past (over_limit h w) = absurd (omega arith)
   sane_of r past (short_scratch h w s) = absurd (omega arith)
-  sane_of r past (bad_row_lem h w e) = absurd (omega arith)
+  sane_of r past (bad_rows h w e) = absurd (omega arith)
   sane_of r past (bad_fragments h w o e) = absurd (omega arith)
   sane_of r past (bad_variables turn e) = turn.sane
   sane_of r past (a_conflict turn v e) = turn.sane
@@ -144,7 +144,7 @@ module _ (run : Engine) (E : Decides run) (image : List ℕ) (work long : ℕ) w
   exactly r clear covers (bad_header e) = not_none clear.sane.header e
   exactly r clear covers (over_limit h w) = absurd (clear.enough.budget w)
   exactly r clear covers (short_scratch h w s) = absurd (clear.enough.scratch s)
-  exactly r clear covers (bad_row_lem h w e) = not_none clear.sane.rows e
+  exactly r clear covers (bad_rows h w e) = not_none clear.sane.rows e
   exactly r clear covers (bad_fragments h w o e) = not_none clear.sane.fragments e
   exactly r clear covers (bad_variables {i} turn e) = not_none (clear.variables i turn.own) e
   exactly r clear covers (a_conflict {i} {used} {c = d} {y = y} turn v e) = (
@@ -176,7 +176,7 @@ module _ (run : Engine) (E : Decides run) (image : List ℕ) (less more long lon
   given_more r (bad_header e) h3 h17 = bad_header e
   given_more r (over_limit h w) h3 h17 = absurd (enough.budget (omega arith))
   given_more r (short_scratch h w s) h3 h17 = absurd (h3 refl)
-  given_more r (bad_row_lem h w e) h3 h17 = bad_row_lem h enough e
+  given_more r (bad_rows h w e) h3 h17 = bad_rows h enough e
   given_more r (bad_fragments h w o e) h3 h17 = bad_fragments h enough o e
   given_more r (bad_variables turn e) h3 h17 = bad_variables (turn_more turn) e
   given_more r (a_conflict {i} {used} turn v e) h3 h17 = a_conflict (turn_more turn) v (same_walk used i e (λ h. h))
@@ -201,7 +201,7 @@ module _ (image : List ℕ) (work long i : ℕ) where
   first_shape r clear covers (bad_header e) f = not_none clear.sane.header e
   first_shape r clear covers (over_limit h w) f = absurd (clear.enough.budget w)
   first_shape r clear covers (short_scratch h w s) f = absurd (clear.enough.scratch s)
-  first_shape r clear covers (bad_row_lem h w e) f = not_none clear.sane.rows e
+  first_shape r clear covers (bad_rows h w e) f = not_none clear.sane.rows e
   first_shape r clear covers (bad_fragments h w o e) f = not_none clear.sane.fragments e
   first_shape r clear covers (bad_variables {i = j} turn e) f = not_none (clear.variables j turn.own) e
   first_shape r clear covers (a_conflict {i = j} {used} {a} {b} {c = d} {y = y} turn v e) f =

@@ -23,7 +23,7 @@ use Rattle.selection.specs.declared.arena.Reply.{Reply}
 use Rattle.query.specs.Needed.{most_work, scratch_needed}
 use Rattle.query.specs.Stages.{Stage, stage_of}
 use Rattle.query.specs.Reply.{answer, document_of, of_image, of_fragments, of_variables, of_walk, or_else, refused, faulty, operations_from, walked_reply, reply_by}
-use Rattle.query.specs.Given.{Sane, Ran, ran_none, ran_more, Enough, ComesTo, Given, bad_header, over_limit, short_scratch, bad_row_lem, bad_fragments, bad_variables, a_conflict, budget_spent, passes}
+use Rattle.query.specs.Given.{Sane, Ran, ran_none, ran_more, Enough, ComesTo, Given, bad_header, over_limit, short_scratch, bad_rows, bad_fragments, bad_variables, a_conflict, budget_spent, passes}
 use Rattle.query.proofs.ShownKinds.{cause_stage, header_stage, row_stage, fragments_stage, usage_stage}
 use Rattle.query.proofs.Soundness.{operation_sound}
 
@@ -38,7 +38,7 @@ module _ (run : Engine) (image : List ℕ) (work long : ℕ) where
   given_stage (bad_header e) = header_stage image e
   given_stage (over_limit h w) = refl
   given_stage (short_scratch h w s) = refl
-  given_stage (bad_row_lem h w e) = row_stage image e
+  given_stage (bad_rows h w e) = row_stage image e
   given_stage (bad_fragments h w o e) = fragments_stage image e
   given_stage (bad_variables {i} turn e) = usage_stage image i e
   given_stage (a_conflict {c = c} turn v e) = cause_stage c
@@ -100,7 +100,7 @@ module _ (run : Engine) (E : Decides run) (image : List ℕ) (work long : ℕ) w
 
       by_rows : (o : Option Refusal) → row_fault image ≡ o
           → Caused run image work long (or_else (of_image o ▷ of_fragments (fragment.fragments_fault image)) (walked_reply run image work))
-      by_rows (some r) e = told run image work long (bad_row_lem header enough e)
+      by_rows (some r) e = told run image work long (bad_rows header enough e)
       by_rows none e = by_fragments (fragment.fragments_fault image) refl e
 
   -- Every reply has its cause, and no earlier one.

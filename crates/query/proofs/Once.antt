@@ -20,7 +20,7 @@ use Rattle.selection.specs.declared.arena.Reply.{Reply}
 use Rattle.query.specs.Needed.{most_work, scratch_needed}
 use Rattle.query.specs.Reply.{answer, document_of, refused, faulty, operations_from, walked_reply, reply_by}
 use Rattle.query.specs.Stages.{Stage}
-use Rattle.query.specs.Given.{Sane, Ran, ran_none, ran_more, Enough, ComesTo, Given, bad_header, over_limit, short_scratch, bad_row_lem, bad_fragments, bad_variables, a_conflict, budget_spent, passes}
+use Rattle.query.specs.Given.{Sane, Ran, ran_none, ran_more, Enough, ComesTo, Given, bad_header, over_limit, short_scratch, bad_rows, bad_fragments, bad_variables, a_conflict, budget_spent, passes}
 
 module _ (run : Engine) (image : List ℕ) (work long : ℕ) where
   passed_sizes : Enough image work long → header_fault image ≡ none → refused image work long ≡ none
@@ -113,7 +113,7 @@ module _ (run : Engine) (image : List ℕ) (work long : ℕ) where
   given_once r (bad_header {r = x} e) = refused_is _ (header_refused x e)
   given_once r (over_limit h w) = refused_is _ (work_refused h w)
   given_once r (short_scratch h w s) = refused_is _ (scratch_refused h w s)
-  given_once r (bad_row_lem {r = x} h w e) = faulty_is _ (passed_sizes w h) (rows_faulty x e)
+  given_once r (bad_rows {r = x} h w e) = faulty_is _ (passed_sizes w h) (rows_faulty x e)
   given_once r (bad_fragments {r = x} h w o e) = faulty_is _ (passed_sizes w h) (fragments_faulty x o e)
   given_once r (bad_variables {i} {used} {r = x} turn e) = walked_is i used turn _ (λ left. variables_end left i used x e)
   given_once r (a_conflict {i} {used} {a} {b} {c = d} {y = y} turn v e) = walked_is i used turn _ (λ left. conflict_ends left i used d a b y v e)

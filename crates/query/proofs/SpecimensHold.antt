@@ -1,4 +1,4 @@
--- Document 01's specimens hold: one table, one statement, by computation. Assumes nothing.
+-- The specimens hold: one table, one statement, by computation. Assumes nothing.
 use mathlib.Core.Path.{◌≡◌, refl}
 use mathlib.Core.List.{map}
 use Rattle.merge_theory.specs.Walk as walk

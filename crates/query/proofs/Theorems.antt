@@ -2,19 +2,19 @@
 -- go is in Cases, Once, Answers, Covering and Meanings. What the statements speak of is in specs/Reply, specs/Stages, specs/Given and specs/Right.
 -- Merging is put to an engine: `run` is any that has the six laws of `Decides` (merge_theory/specs/Engine), `reply_by run` the reply with it.
 -- The check's engine is `check`, and `reply` is `reply_by check`: "the check", at the end, has the theorems so.
---   demand 1
+--   first promise
 --     given                every reply has its cause, that of its kind's stage, and no earlier one (specs/Given; proved in proofs/Cases)
 --     given_once           two replies with a cause are one (proofs/Once)
---     rows_fail            4: a row rule of document 01 breaks, first at what is shown (rows/specs/Meaning)
+--     rows_fail            4: a row rule breaks, first at what is shown (rows/specs/Meaning)
 --     rows_given           and where it does, the reply is that
---   demand 2
+--   second promise
 --     fragments_fail       5 to 9: the rule on fragments fails, first at what is shown (fragment/specs/Meaning)
 --     fragments_given      and where it does, the reply is that
 --     fragments_used       past them: every fragment is reached, and is the target of a spread
 --     variables_fail       10 to 13: the rule on variables fails, first at what is shown (variable/specs/Rules)
 --     variables_given      and where it does, the reply is that
 --     passes_right         0: every rule holds, whatever the budget
---   demand 3
+--   third promise
 --     passes_exactly       no cause of 1 to 13, and the budget covers the walk: 0 exactly if the pairwise rule holds for every set reached
 --     passes_exactly_by    the same with the specification's own comparisons
 --     passes_exactly_each  the same of each selection set of the document
@@ -24,7 +24,7 @@
 --     conflict_is_true     14, 15, 16: the two fields truly conflict at one response path
 --     larger_budget_same   a larger budget, up to the limit and with scratch to match, changes no answer but 3 and 17
 --   the check
---     check_given, check_right, check_exactly, check_true, check-budget: five of these with `check`
+--     check_given, check_right, check_exactly, check_true, check_budget: five of these with `check`
 --     fourteen_exactly     14 exactly if two fields truly conflict in shape
 use Prim.Native.Nat.{ℕ, ◌<◌, ◌≤◌}
 use mathlib.Core.Path.{◌≡◌, refl, ap, subst, ◌∙◌}
@@ -52,13 +52,13 @@ use Rattle.fragment.proofs.Whole.{fragments_exactly}
 use Rattle.query.specs.Needed.{most_work, scratch_needed}
 use Rattle.query.specs.Stages.{Stage, at_rows, at_fragments, at_variables, stage_of, place}
 use Rattle.query.specs.Reply.{answer, document_of, reply_by, reply}
-use Rattle.query.specs.Given.{Enough, ComesTo, Given, bad_row_lem, bad_fragments, bad_variables}
+use Rattle.query.specs.Given.{Enough, ComesTo, Given, bad_rows, bad_fragments, bad_variables}
 use Rattle.query.specs.Right.{NoCause, Covers, AllMerge, AllMergeBy, EachSetMerges, FirstInShape, AllRight}
 use Rattle.query.proofs.ShownKinds.{cause_stage}
 use Rattle.query.proofs.Answers.{rows_of, fragments_of, variables_of, sane_of, right_of, conflict_of, not_spent, spent_17, exactly, given_more, shape_first, first_shape}
 use Rattle.query.proofs.Covering.{raised_covers, some_covers}
 use Rattle.query.proofs.Meanings.{all_merge_means, sane_reached, sane_spread, each_set}
--- ---- demand 1: a numbered answer to any words
+-- ---- first promise: a numbered answer to any words
 pub use Rattle.query.proofs.Cases.{sane_good, given}
 pub use Rattle.query.proofs.Once.{given_once}
 
@@ -71,15 +71,15 @@ module _ (run : Engine) (E : Decides run) (image : List ℕ) (work long : ℕ) w
   kind_cause : {k : ℕ} {s : Stage} → (reply_by run image work long).kind ≡ k → stage_of k ≡ s → Given run image work long s (reply_by run image work long)
   kind_cause e stage = cause (ap stage_of e ∙ stage)
 
-  -- Kind 4: the table and the row shown are where the row rules of document 01 break first.
+  -- Kind 4: the table and the row shown are where the row rules break first.
   pub rows_fail : stage_of (reply_by run image work long).kind ≡ at_rows → BrokenAt image (reply_by run image work long).a (reply_by run image work long).b
   rows_fail at = rows_of run E image work long (reply_by run image work long) (cause at)
 
   -- And where kinds 1 to 3 have no cause and they break first there, the reply is that.
   pub rows_given : header_fault image ≡ none → Enough image work long → (t r : ℕ) → BrokenAt image t r → answer 4 0 t r 0 ≡ reply_by run image work long
-  rows_given header enough t r broken = given_once run image work long _ (bad_row_lem header enough ((row_fault_exactly image header t r).1 broken))
+  rows_given header enough t r broken = given_once run image work long _ (bad_rows header enough ((row_fault_exactly image header t r).1 broken))
 
-  -- ---- demand 2: each rule answers as the specification defines it
+  -- ---- second promise: each rule answers as the specification defines it
 
   -- Kinds 5 to 9: the rule on fragments that the kind stands for fails, first at what is shown, and those before it hold.
   pub fragments_fail : stage_of (reply_by run image work long).kind ≡ at_fragments
@@ -112,7 +112,7 @@ module _ (run : Engine) (E : Decides run) (image : List ℕ) (work long : ℕ) w
   unfolding stage_of
   passes_right k = right_of run E image work long (reply_by run image work long) (kind_cause k refl)
 
-  -- ---- demand 3: the merge rule
+  -- ---- third promise: the merge rule
 
   -- Kinds 14, 15 and 16 name two fields that truly conflict at one response path.
   pub conflict_is_true : (c : Cause) → (reply_by run image work long).kind ≡ number_of c

@@ -1,4 +1,4 @@
--- Which cause a reply has, one case for each stage, in the order of document 01's table; for any engine that goes through operations.
+-- Which cause a reply has, one case for each stage, in the order of the table of kinds; for any engine that goes through operations.
 use Rattle.std.specs.Prelude.{ℕ, suc, ◌<◌, ◌≡◌, List}
 use Rattle.std.proofs.Math.Option.{none, some}
 use Rattle.merge_theory.specs.Document.{Cause, number_of}
@@ -46,7 +46,7 @@ module _ (run : Engine) (image : List ℕ) (work : ℕ) where
       over_limit : header_fault image ≡ none → most_work < work → Given at_budget (answer 2 0 work 0 0)
       short_scratch : header_fault image ≡ none → (most_work < work → ⊥) → long < scratch_needed image work
           → Given at_scratch (answer 3 0 (scratch_needed image work) 0 0)
-      bad_row_lem : {r : Refusal} → header_fault image ≡ none → Enough image work long → row_fault image ≡ some r
+      bad_rows : {r : Refusal} → header_fault image ≡ none → Enough image work long → row_fault image ≡ some r
           → Given at_rows (answer r.kind 0 r.a r.b 0)
       bad_fragments : {r : fragment.Refusal} → header_fault image ≡ none → Enough image work long → row_fault image ≡ none
           → fragment.fragments_fault image ≡ some r → Given at_fragments (answer r.kind r.operation r.a 0 0)

@@ -1,4 +1,4 @@
--- The words of scratch that an image and a budget need (document 01, "The reply"). Assumes nothing.
+-- The words of scratch that an image and a budget need. Assumes nothing.
 use Rattle.std.specs.Prelude.{ℕ, ◌+◌, ◌*◌, List}
 use Rattle.lists.specs.Every.{total}
 use Rattle.tables.specs.Layout.{table_count}

@@ -8,7 +8,7 @@ use Rattle.query.specs.Reply.{answer}
 use Rattle.query.specs.declared.refuse.Refused.{Refused}
 use Rattle.query.specs.declared.refuse.Refused.TheVariants.{Not, By}
 
--- the answer, as the paper numbers it
+-- the answer, by its number
 abbrev pub refused_shows : Refused → Option Reply
 refused_shows Not = none
 refused_shows (By kind a) = some (answer kind 0 a 0 0)

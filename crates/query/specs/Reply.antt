@@ -1,4 +1,4 @@
--- What the check replies (document 01, "The reply"): the order of all kinds, and what each shows. Hold it beside 01's table. Merging is put
+-- What the check replies: the order of all kinds, and what each shows. Hold it beside the table in README. Merging is put
 -- to an engine, `run`: the check's is `check`, the merge walk.
 use Rattle.std.specs.Prelude.{ℕ, zero, suc, List, ◌++◌, leb, length, drop, replicate}
 use Rattle.std.proofs.Math.Option.{Option, none, some}

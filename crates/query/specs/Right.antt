@@ -1,5 +1,5 @@
 -- What the theorems say of an image, beside its reply: no cause of 1 to 13 exists, the budget covers the walk, every rule holds. Hold it beside
--- the three demands.
+-- the three promises.
 use Rattle.std.specs.Prelude.{ℕ, ◌<◌, ◌≡◌, List, [], ◌∷◌}
 use Rattle.std.proofs.Math.Option.{none}
 use Rattle.merge_theory.specs.Document.{shape}
@@ -21,7 +21,7 @@ use Rattle.values.specs.Identical.{IdenticalArguments}
 use Rattle.query.specs.Reply.{document_of}
 use Rattle.query.specs.Given.{Sane, Ran, Enough}
 
--- ---- what demand 3 assumes
+-- ---- what the third promise assumes
 
 -- no cause of 1 to 13 exists
 pub record NoCause (image : List ℕ) (work long : ℕ) : Type 0 where
@@ -78,7 +78,7 @@ pub record FirstInShape (image : List ℕ) (i : ℕ) : Type 0 where
 -- ---- every rule holds
 
 pub record AllRight (image : List ℕ) : Type 0 where
-  -- the row rules, as document 01 has them, and what the rules past them rely on
+  -- the row rules, and what the rules past them rely on
   pub rows : KeepsRowRules image
   pub good : Good image
   -- 5 to 9 find nothing; 5.5.1.4 as it is written: each fragment is the target of a spread

@@ -1,4 +1,4 @@
-// The query check (document 01, "The reply"): the order of all kinds, and the scratch, lent and handed back clear.
+// The query check: the order of all kinds, and the scratch, lent and handed back clear.
 // check: the whole, for any words. needed: the words of scratch that an image and a budget need. refuse: kinds 1 to 3.
 // operations: kinds 10 to 17, operation by operation.
 #![tactic(auto)]

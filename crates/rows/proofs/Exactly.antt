@@ -1,4 +1,4 @@
--- Kind 4, both ways: the row check finds no fault exactly where every row keeps document 01's rules and nothing is left over, and shows
+-- Kind 4, both ways: the row check finds no fault exactly where every row keeps the row rules and nothing is left over, and shows
 -- table t, row r exactly where these break first. `rows_good` (Promise) says only that what passes is good, which a check that refuses
 -- too much would satisfy too; it, one that refuses too little, and one that shows another row fail here.
 -- Assumes nothing.

@@ -58,7 +58,7 @@ module _ (image : List ℕ) (fault-free : image_fault image ≡ none) where
   good_image = record {
     nine = nine_tables (word_at image 0);
     few = (good_header image (good_header_of image fault-free)).few;
-    type_kind_lem = kind_of_type image 9 all_good (omega arith);
+    type_kinds = kind_of_type image 9 all_good (omega arith);
     types_ascend = ascending image 9 all_good (omega arith);
     reference = reference_row image 9 all_good (omega arith);
     operation = operation_row image 9 all_good (omega arith);

@@ -1,4 +1,4 @@
--- Kind 4 in document 01's words ("Row rules", and row 4 of the table of kinds): what each row keeps, by table, that nothing is left
+-- Kind 4 in words: what each row keeps, by table, that nothing is left
 -- over, and which row is shown where something breaks. Relations over the rows, no tests and no steps; proofs/Exactly says that the
 -- tests of the check are these. A row is judged by lower tables and lower rows, which keep theirs wherever it is the one at fault.
 -- Assumes nothing.

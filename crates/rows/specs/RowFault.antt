@@ -1,4 +1,4 @@
--- Kind 4: the first row rule that is broken, and what is left unclaimed (document 01, the table of kinds).
+-- Kind 4: the first row rule that is broken, and what is left unclaimed (the table of kinds).
 -- Assumes nothing.
 use Rattle.std.specs.Prelude.{ℕ, ◌<◌, ◌≡◌, Bool, true, not, List, [], ◌∷◌, leb, length, get_or}
 use Rattle.std.proofs.Math.Option.{Option, none, some}
@@ -17,7 +17,7 @@ use Rattle.rows.specs.declared.Rows.TheVariants.{Good, BadHeader, BadRow}
 abbrev pub bad_row : ℕ → ℕ → Refusal
 bad_row table row = record { kind = 4; a = table; b = row }
 
--- the answer of the row check, as the paper numbers it
+-- the answer of the row check, by its number
 abbrev pub rows_show : Rows → Option Refusal
 rows_show Good = none
 rows_show (BadHeader word) = some (bad_word word)

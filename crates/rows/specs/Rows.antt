@@ -1,5 +1,5 @@
 -- Kind 4, the tables whose rows are judged one by one: types, type references, operations, fragments, sets, arguments,
--- variables (document 01, "Row rules"). A rule may lean on lower rows and lower tables: the first fault is named, so where a
+-- variables. A rule may lean on lower rows and lower tables: the first fault is named, so where a
 -- row is judged those are good.
 -- Assumes nothing.
 use Rattle.std.specs.Prelude.{ℕ, zero, suc, Bool, true, cond, ◌&&◌, List, eqb, leb, ltb}

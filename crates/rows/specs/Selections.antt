@@ -1,4 +1,4 @@
--- Kind 4, table 5: the rules of a selection (document 01, "Row rules"). Two of them lean on other rows: which number the set
+-- Kind 4, table 5: the rules of a selection. Two of them lean on other rows: which number the set
 -- that a selection owns must have, and which set the selection stands in.
 -- Assumes nothing.
 use Rattle.std.specs.Prelude.{ℕ, suc, Bool, false, cond, not, ◌&&◌, ◌||◌, List, eqb, leb, ltb}

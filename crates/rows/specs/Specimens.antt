@@ -1,4 +1,4 @@
--- Images, what the row check shows of each, and where the selections of one set stand: 01's specimens of the tables, and a damaged
+-- Images, what the row check shows of each, and where the selections of one set stand: specimens of the tables, and a damaged
 -- image for each condition of the row rules; for each limit an image that just keeps it and one past it. One condition has no image of its
 -- own: that a leaf owns no set follows from two others. Written by tools/specimens.py. Assumes nothing.
 use Rattle.std.specs.Prelude.{ℕ, zero, suc, ◌+◌, ◌-◌, ◌*◌, List, [], ◌∷◌, ◌++◌, set}
@@ -41,7 +41,7 @@ with_members n = field_with 1 (1 + n) (30 ∷ 0 ∷ 0 ∷ 8 ∷ 4294967295 ∷ 1
 abbrev pub with_levels : ℕ → List ℕ
 with_levels n = field_with 1 n (30 ∷ 0 ∷ 0 ∷ (rows_of (n - 1) 1 (λ i. 7 ∷ 4294967295 ∷ i ∷ 1 ∷ []) ++ (7 ∷ 4294967295 ∷ n ∷ 0 ∷ [])))
 
--- document 01's specimen `{a}`
+-- the specimen `{a}`
 abbrev pub small : List ℕ
 small =
     1 ∷ 42 ∷ 2 ∷ 20 ∷ 1 ∷ 24 ∷ 1 ∷ 26 ∷ 0 ∷ 30 ∷ 1 ∷ 30 ∷ 1 ∷ 33 ∷ 0 ∷ 42 ∷ 0 ∷ 42 ∷ 0 ∷ 42 ∷

@@ -1,4 +1,4 @@
--- Kind 4, table 7: the rules of a value (document 01, "Row rules"). Two of them lean on other rows: which value rows the next
+-- Kind 4, table 7: the rules of a value. Two of them lean on other rows: which value rows the next
 -- list or object claims, and at which level a value stands.
 -- Assumes nothing.
 use Rattle.std.specs.Prelude.{ℕ, Bool, true, cond, not, ◌&&◌, ◌||◌, List, eqb, leb, ltb}

@@ -1,4 +1,4 @@
--- The words of each table's rows by name, in the order of document 01 ("The image"), and what they mean together.
+-- The words of each table's rows by name, in their order, and what they mean together.
 -- Assumes nothing.
 use Rattle.std.specs.Prelude.{ℕ, zero, suc, ◌+◌, min, Bool, cond, ◌&&◌, List, eqb, leb, ltb}
 use Rattle.tables.specs.Layout.{NONE, types, references, operations, fragments, sets, selections, arguments, values, variables}

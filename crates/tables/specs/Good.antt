@@ -1,5 +1,5 @@
 -- The promise of the table reader: what every crate above may rely on of an image without fault, and nothing else. Rows are
--- spoken of by the columns' names; each record says what is right of one row, in the order of document 01.
+-- spoken of by the columns' names; each record says what is right of one row.
 -- Assumes nothing.
 use Rattle.std.specs.Prelude.{ℕ, suc, ◌+◌, ◌<◌, ◌≤◌, ◌≡◌, true, List}
 use Rattle.lists.specs.Every.{Distinct}
@@ -112,7 +112,7 @@ pub record Good (image : List ℕ) : Type 0 where
   -- nine tables at least, each with no more rows than its layout allows
   pub nine : 9 ≤ table_count (word_at image 0)
   pub few : (t : ℕ) → t < table_count (word_at image 0) → count_at image t ≤ most_rows (word_at image 0) t
-  pub type_kind_lem : (r : ℕ) → r < count_at image types → type_kind image r ≤ 5
+  pub type_kinds : (r : ℕ) → r < count_at image types → type_kind image r ≤ 5
   pub types_ascend : (q r : ℕ) → q < r → r < count_at image types → type_name image q < type_name image r
   pub reference : (r : ℕ) → r < count_at image references → GoodReference image r
   pub operation : (i : ℕ) → i < count_at image operations → GoodOperation image i

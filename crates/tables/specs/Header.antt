@@ -1,4 +1,4 @@
--- Kind 1: the header of an image, or the first wrong word (document 01, "The image", and the table of kinds).
+-- Kind 1: the header of an image, or the first wrong word.
 -- Assumes nothing.
 use Rattle.std.specs.Prelude.{ℕ, ◌+◌, ◌*◌, List, length, leb, eqb}
 use Rattle.std.proofs.Math.Option.{Option, none, some}
@@ -17,7 +17,7 @@ pub record Refusal : Type 0 where
 abbrev pub bad_word : ℕ → Refusal
 bad_word a = record { kind = 1; a = a; b = 0 }
 
--- the answer of the header's reader, as the paper numbers it
+-- the answer of the header's reader, by its number
 abbrev pub header_shows : Header → Option Refusal
 header_shows Good = none
 header_shows (Wrong a) = some (bad_word a)
@@ -28,7 +28,7 @@ table_fault image e t =
     expect (leb (count_at image t) (most_rows e t)) (bad_word (2 + 2 * t)) ▷
     expect (eqb (offset_at image t) (start_of image e t)) (bad_word (3 + 2 * t))
 
--- in the order of the paper: the length, the edition, the total, the tables, the last end
+-- in this order: the length, the edition, the total, the tables, the last end
 unfoldable pub edition_fault : List ℕ → ℕ → Option Refusal
 edition_fault image e =
     expect (leb (header_words e) (length image)) (bad_word (length image)) ▷

@@ -1,4 +1,4 @@
--- The words of an image, what its header says of a table, and the cells of a table (document 01, "The image").
+-- The words of an image, what its header says of a table, and the cells of a table.
 -- Assumes nothing.
 use Rattle.std.specs.Prelude.{ℕ, zero, suc, ◌+◌, ◌*◌, min, Bool, List, leb, ltb, get_or}
 use Rattle.tables.specs.Layout.{NONE, header_words, row_width}

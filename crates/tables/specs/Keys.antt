@@ -1,4 +1,4 @@
--- Keys: the names of arguments and the keys of object members (document 01, tables 6 and 7).
+-- Keys: the names of arguments and the keys of object members (tables 6 and 7).
 -- Assumes nothing.
 use Rattle.std.specs.Prelude.{ℕ, cond, List, eqb}
 use Rattle.tables.specs.declared.Range.{Range}

@@ -1,4 +1,4 @@
--- What each edition lays down: its tables, the words in their rows, and how many rows at most (document 01, "The image"). Header, cells and
+-- What each edition lays down: its tables, the words in their rows, and how many rows at most. Header, cells and
 -- lookup take these numbers from here: to them a later edition is one list more. They stand again in the code (src/lib.rt), as the nine rules of
 -- the row check (rows/specs/RowFault), and in proofs, as bounds on how many tables and rows there are (tables, rows, reach, variable, selection,
 -- query). Assumes nothing.

@@ -1,4 +1,4 @@
--- What the contracts cite, in the order of document 01.
+-- What the contracts cite.
 pub mod Layout
 pub mod Image
 pub mod Header

@@ -1,4 +1,4 @@
--- The selections of a set, as the very part of the image (document 01, the public lookup).
+-- The selections of a set, as the very part of the image (the public lookup).
 -- Assumes nothing.
 use Rattle.std.specs.Prelude.{ℕ, ◌+◌, ◌*◌, ◌≡◌, List, cond, length, take, drop, ltb}
 use Rattle.std.proofs.Math.Option.{Option, none, some}

@@ -1,6 +1,6 @@
 -- How rows are numbered by other rows: where a set's selections begin and end, which set a selection stands in, which number
 -- the next set has that a selection owns, which value rows the next list or object claims, and at which level a value stands;
--- and the limits on these (document 01, "Row rules"). What is good of them is said in Good.
+-- and the limits on these. What is good of them is said in Good.
 -- Assumes nothing.
 use Rattle.std.specs.Prelude.{ℕ, zero, suc, ◌+◌, Bool, cond, not, ◌&&◌, ◌||◌, List, eqb, leb, ltb}
 use Rattle.lists.specs.Every.{position, total}

@@ -1,4 +1,4 @@
--- Types as the GraphQL specification speaks of them, and the type that a reference of table 1 stands for (document 01, "The image"):
+-- Types as the GraphQL specification speaks of them, and the type that a reference of table 1 stands for:
 -- a relation, no steps. Assumes nothing.
 use Rattle.std.specs.Prelude.{ℕ, ◌≡◌, List}
 use Rattle.tables.specs.Columns.{reference_kind, reference_child}

@@ -1,4 +1,4 @@
-// The image (document 01, "The image"): its words, tables and cells. Every read is total: a word past the end is 0. So no
+// The image: its words, tables and cells. Every read is total: a word past the end is 0. So no
 // public function has a `requires`, and each contract is an equation with a definition of specs/, for every image.
 // header: kind 1. columns: the cells by name. keys: names of arguments, keys of members. lookup: the selections of one set. The
 // rules of the rows (kind 4) have a crate of their own, `rows`; what they promise of an image is `Good`.

@@ -178,7 +178,7 @@ module _ (image : List ℕ) where
         go (no named) =
             let known = g.named (omega arith) in
             of_names (omega arith) refl
-            (named_refl image child (good.type_kind_lem child known) (λ e. o.output (ap (type_kind image) (named_core image r (omega arith)) ∙ e)))
+            (named_refl image child (good.type_kinds child known) (λ e. o.output (ap (type_kind image) (named_core image r (omega arith)) ∙ e)))
 
     refl_below : (n r : ℕ) → r < n → OutputReference image r → same_shape image r r ≡ true
     refl_below zero r h o = absurd (omega arith)

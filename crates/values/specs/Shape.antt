@@ -1,4 +1,4 @@
--- When two output types have one shape (document 01, "The merge walk": wrappers and nullability must match; leaves need one
+-- When two output types have one shape (wrappers and nullability must match; leaves need one
 -- type; any two composites agree). It is what GraphQL's SameResponseShape asks of the types of two fields.
 -- Assumes nothing.
 use Rattle.std.specs.Prelude.{ℕ, zero, suc, Bool, false, cond, ◌&&◌, ◌||◌, List, eqb, leb, ltb}

@@ -13,6 +13,7 @@ enum Wrappers {
 }
 
 // Kinds: 0 named, 1 non-null named, 2 list, 3 non-null list.
+#[tactic(auto, unfolding(crate::specs::Shape::both_wrappers, crate::specs::Shape::are_names, crate::specs::Shape::are_lists))]
 fn both_wrappers(left: u32, right: u32) -> Wrappers
     ensures { result ≡ both_wrappers left right }
 {

@@ -209,4 +209,4 @@ module _ (image : List ℕ) where
     output_means v h s =
         let reference = (good.variable v h).reference in
         let core = (good.reference (variable_type image v) reference).core in
-        rw (input_means reference s) (composite_means (type_kind image (innermost image (variable_type image v))) (good.type_kind_lem _ core))
+        rw (input_means reference s) (composite_means (type_kind image (innermost image (variable_type image v))) (good.type_kinds _ core))

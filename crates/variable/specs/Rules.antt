@@ -1,5 +1,5 @@
 -- The rules on an operation's variables, written from the specification of October 2021 (5.8.1, 5.8.2, 5.8.4, 5.8.5) over what an
--- operation reaches: relations, no words of scratch and no steps. A type is the one that a reference stands for. Document 01's gaps are
+-- operation reaches: relations, no words of scratch and no steps. A type is the one that a reference stands for. The gaps are
 -- said where they are.
 -- Assumes nothing.
 use Rattle.std.specs.Prelude.{ℕ, ◌<◌, ◌≤◌, ◌≡◌, true, List, eqb}
@@ -92,7 +92,7 @@ module _ (image : List ℕ) (i : ℕ) where
     pub defined : Defines v
     pub unused : UsesName (variable_name image v) → ⊥
 
-  -- ---- 5.8.5 All Variable Usages Are Allowed: IsVariableUsageAllowed of each usage. Document 01's gaps: a usage in a list or an
+  -- ---- 5.8.5 All Variable Usages Are Allowed: IsVariableUsageAllowed of each usage. The gaps: a usage in a list or an
   -- object is passed over, and so is one that the operation does not define
 
   -- argument a is variable v

@@ -47,7 +47,7 @@ are_types_compatible (named v) (named l) = eqb v l
 
 -- ---- 5.8.5 IsVariableUsageAllowed(variableDefinition, variableUsage)
 
--- A default that is null counts as a default (document 01, "Differences to record").
+-- A default that is null counts as a default.
 unfoldable pub is_variable_usage_allowed : (variable_type locationType : Ty) (hasVariableDefaultValue hasLocationDefaultValue : Bool) → Bool
 is_variable_usage_allowed variable_type locationType hasVariableDefaultValue hasLocationDefaultValue =
     -- 3. If locationType is a non-null type AND variable_type is NOT a non-null type:

@@ -18,7 +18,7 @@ pub record Shown : Type 0 where
   pub kind : ℕ
   pub a : ℕ
 
--- the answer, as the paper numbers it
+-- the answer, by its number
 abbrev pub usage_shows : Usage → Option Shown
 usage_shows Good = none
 usage_shows (Wrong kind a) = some (record { kind = kind; a = a })
