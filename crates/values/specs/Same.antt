@@ -1,5 +1,5 @@
 -- When two values, and the arguments of two fields, are the same (arguments as unordered sets;
--- "Differences": lists of unlike length differ). It is what GraphQL's Field Selection Merging calls identical sets of arguments.
+-- lists of unlike length differ). It is what GraphQL's Field Selection Merging calls identical sets of arguments.
 -- Assumes nothing.
 use Rattle.std.specs.Prelude.{ℕ, zero, suc, Bool, false, cond, not, ◌&&◌, List, eqb}
 use Rattle.lists.specs.Every.{every, find, absent}

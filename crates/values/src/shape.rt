@@ -39,6 +39,7 @@ fn both_wrappers(left: u32, right: u32) -> Wrappers
 }
 
 // Two named types: scalars and enums need one type; any two composites agree.
+#[tactic(auto, unfolding(crate::specs::Shape::same_named, crate::specs::Shape::is_leaf, tables::specs::Columns::is_composite))]
 fn same_named_shape(image: &[u32], left: u32, right: u32) -> bool
     ensures { result ≡ same_named image.now left right }
 {

@@ -9,9 +9,7 @@ loop-walked-init c = underway_first _ _
 
 pub loop-walked-preserved : goal.loop-walked-preserved
 loop-walked-preserved c =
-    let read = c in
-    let at = read in
-    underway_turn at.loop-walked.invariant (omega arith) read.in_region.ensures read.get-set.ensures c.expand_set-next.ensures
+    underway_turn c.loop-walked.invariant (omega arith) c.in_region.ensures c.get-set.ensures c.expand_set-next.ensures
 
 pub shape_of-s : goal.shape_of-s
 shape_of-s c = c.loop-walked.invariant.long

@@ -9,8 +9,7 @@ loop-i-init c = (omega arith, steps_first _ _ _)
 
 pub loop-i-preserved : goal.loop-i-preserved
 loop-i-preserved c =
-    let at = c in
-    (omega arith, steps_more _ at.loop-i.i at.loop-i.invariant.1 c.row_in.ensures c.expand_selection-next.ensures)
+    (omega arith, steps_more _ c.loop-i.i c.loop-i.invariant.1 c.row_in.ensures c.expand_selection-next.ensures)
 
 pub shape_of-s : goal.shape_of-s
 shape_of-s c = c.loop-i.invariant.1.long

@@ -7,5 +7,4 @@ returns-then-get-x c = marked_before _ _ _ _ c.in_region-at.ensures c.get.ensure
 
 pub returns : goal.returns
 returns c =
-    let read = c in
-    marked_now _ _ _ _ read.in_region-at.ensures read.get.ensures c.if-get-x.false c.put.ensures c.fragment_set.ensures c.queue_set.ensures
+    marked_now _ _ _ _ c.in_region-at.ensures c.get.ensures c.if-get-x.false c.put.ensures c.fragment_set.ensures c.queue_set.ensures

@@ -32,11 +32,13 @@ same_list-loop-i-init t c = (omega arith, below_none _)
 
 pub same_list-loop-i-preserved : goal.same_list-loop-i-preserved
 same_list-loop-i-preserved t c =
-    (omega arith, below_more _ c.loop-i.i c.loop-i.invariant.1 (sym (member c.args.image.now c.args.level c.args.left c.args.right c.loop-i.i c.same_value.ensures c.row_in.ensures c.row_in-in-loop-i.ensures) ∙ c.if-same_value.true))
+    let here = member c.args.image.now c.args.level c.args.left c.args.right c.loop-i.i c.same_value.ensures c.row_in.ensures c.row_in-in-loop-i.ensures in
+    (omega arith, below_more _ c.loop-i.i c.loop-i.invariant.1 (sym here ∙ c.if-same_value.true))
 
 pub same_list-returns-else-same_value : goal.same_list-returns-else-same_value
 same_list-returns-else-same_value t c =
-    sym (list_differs _ _ _ c.loop-i.i c.loop-i-test.true (sym (member c.args.image.now c.args.level c.args.left c.args.right c.loop-i.i c.same_value.ensures c.row_in.ensures c.row_in-in-loop-i.ensures) ∙ c.if-same_value.false))
+    let here = member c.args.image.now c.args.level c.args.left c.args.right c.loop-i.i c.same_value.ensures c.row_in.ensures c.row_in-in-loop-i.ensures in
+    sym (list_differs _ _ _ c.loop-i.i c.loop-i-test.true (sym here ∙ c.if-same_value.false))
 
 pub same_list-returns : goal.same_list-returns
 same_list-returns t c = sym (list_same _ _ _ c.if-rows-right.false (λ k l. c.loop-i.invariant.1 k (omega arith)))
@@ -46,19 +48,21 @@ same_set-loop-i-init t c = (omega arith, below_none _)
 
 pub same_set-returns-then-place-absent : goal.same_set-returns-then-place-absent
 same_set-returns-then-place-absent t c =
-    sym (set_differs _ _ _ _ c.loop-i.i c.loop-i-test.true (unmatched_key _ _ _ _ (sym (found (key_of c.args.image.now c.args.table) c.args.right _ c.row_in-row.ensures c.key_of.ensures c.find_key-place.ensures) ∙ c.if-place-absent.true)))
+    let place = found (key_of c.args.image.now c.args.table) c.args.right _ c.row_in-row.ensures c.key_of.ensures c.find_key-place.ensures in
+    sym (set_differs _ _ _ _ c.loop-i.i c.loop-i-test.true (unmatched_key _ _ _ _ (sym place ∙ c.if-place-absent.true)))
 
 pub same_set-loop-i-preserved : goal.same_set-loop-i-preserved
 same_set-loop-i-preserved t c =
-    let place = (found (key_of c.args.image.now c.args.table) c.args.right _ c.row_in-row.ensures c.key_of.ensures c.find_key-place.ensures) in
-    let match = (matching c.args.image.now c.args.table c.args.level c.args.left c.args.right c.loop-i.i c.same_value.ensures c.row_in-row.ensures c.row_in.ensures
-    (found (key_of c.args.image.now c.args.table) c.args.right _ c.row_in-row.ensures c.key_of.ensures c.find_key-place.ensures)) in
-    (omega arith, below_more _ c.loop-i.i c.loop-i.invariant.1 (match_found _ _ _ _ (λ e. c.if-place-absent.false (place ∙ e)) (sym match ∙ c.if-same_value.true)))
+    let place = found (key_of c.args.image.now c.args.table) c.args.right _ c.row_in-row.ensures c.key_of.ensures c.find_key-place.ensures in
+    let pair = matching c.args.image.now c.args.table c.args.level c.args.left c.args.right c.loop-i.i c.same_value.ensures c.row_in-row.ensures c.row_in.ensures place in
+    let matched = match_found _ _ _ _ (λ e. c.if-place-absent.false (place ∙ e)) (sym pair ∙ c.if-same_value.true) in
+    (omega arith, below_more _ c.loop-i.i c.loop-i.invariant.1 matched)
 
 pub same_set-returns-else-same_value : goal.same_set-returns-else-same_value
 same_set-returns-else-same_value t c =
-    sym (set_differs _ _ _ _ c.loop-i.i c.loop-i-test.true (unmatched_value _ _ _ _ (sym (matching c.args.image.now c.args.table c.args.level c.args.left c.args.right c.loop-i.i c.same_value.ensures c.row_in-row.ensures c.row_in.ensures
-    (found (key_of c.args.image.now c.args.table) c.args.right _ c.row_in-row.ensures c.key_of.ensures c.find_key-place.ensures)) ∙ c.if-same_value.false)))
+    let place = found (key_of c.args.image.now c.args.table) c.args.right _ c.row_in-row.ensures c.key_of.ensures c.find_key-place.ensures in
+    let pair = matching c.args.image.now c.args.table c.args.level c.args.left c.args.right c.loop-i.i c.same_value.ensures c.row_in-row.ensures c.row_in.ensures place in
+    sym (set_differs _ _ _ _ c.loop-i.i c.loop-i-test.true (unmatched_value _ _ _ _ (sym pair ∙ c.if-same_value.false)))
 
 pub same_set-returns : goal.same_set-returns
 same_set-returns t c = c.are_keys_within.ensures ∙ sym (set_left _ _ _ _ (λ k l. c.loop-i.invariant.1 k (omega arith)))

@@ -15,11 +15,13 @@ loop-i-init c = (omega arith, below_none _)
 pub returns-then-is_key_absent : goal.returns-then-is_key_absent
 unfolding keys_within
 returns-then-is_key_absent c =
-    sym (every_fails _ _ c.loop-i.i (omega arith) (sym (searched (key_of c.args.image.now c.args.table) c.args.outer _ c.row_in.ensures c.key_of.ensures c.is_key_absent.ensures) ∙ ap not c.if-is_key_absent.true))
+    let turn = searched (key_of c.args.image.now c.args.table) c.args.outer _ c.row_in.ensures c.key_of.ensures c.is_key_absent.ensures in
+    sym (every_fails _ _ c.loop-i.i (omega arith) (sym turn ∙ ap not c.if-is_key_absent.true))
 
 pub loop-i-preserved : goal.loop-i-preserved
 loop-i-preserved c =
-    (omega arith, below_more _ c.loop-i.i c.loop-i.invariant.1 (sym (searched (key_of c.args.image.now c.args.table) c.args.outer _ c.row_in.ensures c.key_of.ensures c.is_key_absent.ensures) ∙ ap not c.if-is_key_absent.false))
+    let turn = searched (key_of c.args.image.now c.args.table) c.args.outer _ c.row_in.ensures c.key_of.ensures c.is_key_absent.ensures in
+    (omega arith, below_more _ c.loop-i.i c.loop-i.invariant.1 (sym turn ∙ ap not c.if-is_key_absent.false))
 
 pub returns : goal.returns
 unfolding keys_within

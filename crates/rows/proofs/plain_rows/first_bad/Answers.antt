@@ -13,13 +13,11 @@ is_row_good-requires c = c.requires
 
 pub loop-row-preserved : goal.loop-row-preserved
 loop-row-preserved c =
-    let at = c in
-    (omega arith, below_more _ at.loop-row.row at.loop-row.invariant.1 (sym c.is_row_good.ensures ∙ c.if-is_row_good.true))
+    (omega arith, below_more _ c.loop-row.row c.loop-row.invariant.1 (sym c.is_row_good.ensures ∙ c.if-is_row_good.true))
 
 pub returns-else-is_row_good : goal.returns-else-is_row_good
 returns-else-is_row_good c =
-    let at = c in
-    stops_at _ _ at.loop-row.row (omega arith) at.loop-row.invariant.1 (sym c.is_row_good.ensures ∙ c.if-is_row_good.false)
+    stops_at _ _ c.loop-row.row (omega arith) c.loop-row.invariant.1 (sym c.is_row_good.ensures ∙ c.if-is_row_good.false)
 
 pub returns : goal.returns
 returns c = stops_nowhere _ _ c.count-rows.ensures (λ k l. c.loop-row.invariant.1 k (omega arith))

@@ -15,11 +15,13 @@ loop-i-init c = (omega arith, below_none _)
 pub returns-then-key_of : goal.returns-then-key_of
 unfolding good_list_keys
 returns-then-key_of c =
-    sym (every_fails _ _ c.loop-i.i (omega arith) (ne_eqb _ _ (λ e. c.if-key_of.true ((c.key_of.ensures ∙ ap (key_of c.args.image.now values) c.row_in.ensures) ∙ e))))
+    let read = c.key_of.ensures ∙ ap (key_of c.args.image.now values) c.row_in.ensures in
+    sym (every_fails _ _ c.loop-i.i (omega arith) (ne_eqb _ _ (λ e. c.if-key_of.true (read ∙ e))))
 
 pub loop-i-preserved : goal.loop-i-preserved
 loop-i-preserved c =
-    (omega arith, below_more _ c.loop-i.i c.loop-i.invariant.1 (eq-eqb _ _ (sym (c.key_of.ensures ∙ ap (key_of c.args.image.now values) c.row_in.ensures) ∙ c.if-key_of.false)))
+    let read = c.key_of.ensures ∙ ap (key_of c.args.image.now values) c.row_in.ensures in
+    (omega arith, below_more _ c.loop-i.i c.loop-i.invariant.1 (eq-eqb _ _ (sym read ∙ c.if-key_of.false)))
 
 pub returns : goal.returns
 unfolding good_list_keys

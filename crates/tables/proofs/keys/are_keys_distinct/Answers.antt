@@ -15,13 +15,15 @@ loop-i-init c = (omega arith, below_none _)
 pub returns-then-find_key-i : goal.returns-then-find_key-i
 unfolding distinct
 returns-then-find_key-i c =
-    let at = c in
-    sym (every_fails _ _ at.loop-i.i (omega arith) (ne_eqb _ _ (λ e. c.if-find_key-i.true ((c.find_key.ensures ∙ ap (find c.args.rows.count (key_in c.args.image.now c.args.table c.args.rows)) (c.key_of-key.ensures ∙ ap (key_of c.args.image.now c.args.table) c.row_in.ensures)) ∙ e))))
+    let read = c.key_of-key.ensures ∙ ap (key_of c.args.image.now c.args.table) c.row_in.ensures in
+    let found = c.find_key.ensures ∙ ap (find c.args.rows.count (key_in c.args.image.now c.args.table c.args.rows)) read in
+    sym (every_fails _ _ c.loop-i.i (omega arith) (ne_eqb _ _ (λ e. c.if-find_key-i.true (found ∙ e))))
 
 pub loop-i-preserved : goal.loop-i-preserved
 loop-i-preserved c =
-    let at = c in
-    (omega arith, below_more _ at.loop-i.i at.loop-i.invariant.1 (eq-eqb _ _ (sym (c.find_key.ensures ∙ ap (find c.args.rows.count (key_in c.args.image.now c.args.table c.args.rows)) (c.key_of-key.ensures ∙ ap (key_of c.args.image.now c.args.table) c.row_in.ensures)) ∙ c.if-find_key-i.false)))
+    let read = c.key_of-key.ensures ∙ ap (key_of c.args.image.now c.args.table) c.row_in.ensures in
+    let found = c.find_key.ensures ∙ ap (find c.args.rows.count (key_in c.args.image.now c.args.table c.args.rows)) read in
+    (omega arith, below_more _ c.loop-i.i c.loop-i.invariant.1 (eq-eqb _ _ (sym found ∙ c.if-find_key-i.false)))
 
 pub returns : goal.returns
 unfolding distinct

@@ -12,13 +12,13 @@ loop-i-init c = (omega arith, below_none _)
 
 pub returns-then-key_of-key : goal.returns-then-key_of-key
 returns-then-key_of-key c =
-    let at = c in
-    sym (position_found _ _ at.loop-i.i (omega arith) at.loop-i.invariant.1 (eq-eqb _ _ (sym (c.key_of.ensures ∙ ap (key_of c.args.image.now c.args.table) c.row_in.ensures) ∙ c.if-key_of-key.true)))
+    let read = c.key_of.ensures ∙ ap (key_of c.args.image.now c.args.table) c.row_in.ensures in
+    sym (position_found _ _ c.loop-i.i (omega arith) c.loop-i.invariant.1 (eq-eqb _ _ (sym read ∙ c.if-key_of-key.true)))
 
 pub loop-i-preserved : goal.loop-i-preserved
 loop-i-preserved c =
-    let at = c in
-    (omega arith, below_more _ at.loop-i.i at.loop-i.invariant.1 (ne_eqb _ _ (λ e. c.if-key_of-key.false ((c.key_of.ensures ∙ ap (key_of c.args.image.now c.args.table) c.row_in.ensures) ∙ e))))
+    let read = c.key_of.ensures ∙ ap (key_of c.args.image.now c.args.table) c.row_in.ensures in
+    (omega arith, below_more _ c.loop-i.i c.loop-i.invariant.1 (ne_eqb _ _ (λ e. c.if-key_of-key.false (read ∙ e))))
 
 pub returns : goal.returns
 returns c = sym (position_none _ _ (λ k l. c.loop-i.invariant.1 k (omega arith)))

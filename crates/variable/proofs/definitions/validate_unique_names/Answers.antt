@@ -13,10 +13,14 @@ loop-i-init c = (omega arith, λ n. below_none _)
 
 pub returns-then-find_variable-i : goal.returns-then-find_variable-i
 unfolding first_repeated
-returns-then-find_variable-i c n = sym (first_bad_lem _ _ c.loop-i.i (omega arith) (c.loop-i.invariant.1 n) (ne_eqb _ _ (λ e. c.if-find_variable-i.true ((c.find_variable.ensures n ∙ ap (find_name c.args.image.now c.args.variables) (c.variable_name-name.ensures ∙ ap (variable_name c.args.image.now) c.row_in.ensures)) ∙ e))))
+returns-then-find_variable-i c n =
+    let read = c.variable_name-name.ensures ∙ ap (variable_name c.args.image.now) c.row_in.ensures in
+    sym (first_bad_lem _ _ c.loop-i.i (omega arith) (c.loop-i.invariant.1 n) (ne_eqb _ _ (λ e. c.if-find_variable-i.true ((c.find_variable.ensures n ∙ ap (find_name c.args.image.now c.args.variables) read) ∙ e))))
 
 pub loop-i-preserved : goal.loop-i-preserved
-loop-i-preserved c = (omega arith, λ n. below_more _ c.loop-i.i (c.loop-i.invariant.1 n) (eq-eqb _ _ (sym (c.find_variable.ensures n ∙ ap (find_name c.args.image.now c.args.variables) (c.variable_name-name.ensures ∙ ap (variable_name c.args.image.now) c.row_in.ensures)) ∙ c.if-find_variable-i.false)))
+loop-i-preserved c =
+    let read = c.variable_name-name.ensures ∙ ap (variable_name c.args.image.now) c.row_in.ensures in
+    (omega arith, λ n. below_more _ c.loop-i.i (c.loop-i.invariant.1 n) (eq-eqb _ _ (sym (c.find_variable.ensures n ∙ ap (find_name c.args.image.now c.args.variables) read) ∙ c.if-find_variable-i.false)))
 
 pub returns : goal.returns
 unfolding first_repeated
