@@ -1,5 +1,5 @@
 #!/usr/bin/env python3
-"""Writes the specimens of the whole check: those that were asked for, a budget over the limit, and three on the walk's order, each with its budget, its scratch and
+"""Writes the specimens of the whole check: among them a budget over the limit and three on the walk's order, each with its budget, its scratch and
 the five numbers of its reply.
 
     tools/check_specimens.py > crates/query/specs/Specimens.antt
@@ -143,7 +143,7 @@ CASES = [
     ("`{a{x} a{x}}`, T and T!, String and String!: the outer pair comes first", SHAPE_OVER_SHAPE, 100, 5136, (14, 0, 0, 1, 3)),
 ]
 
-HEAD = """-- Specimens of the whole check, a budget over the limit, and three on the walk's order: images, budgets, scratch, and the five
+HEAD = """-- Specimens of the whole check, among them a budget over the limit and three on the walk's order: images, budgets, scratch, and the five
 -- numbers of each reply. Written by tools/check_specimens.py. Assumes nothing.
 use Rattle.std.specs.Prelude.{ℕ, List, [], ◌∷◌}
 use Rattle.selection.specs.declared.arena.Reply.{Reply}

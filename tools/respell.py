@@ -5,13 +5,13 @@ usage: python3 tools/respell.py     at the top of the repository, once, after th
 
 A name is changed where it is defined in a file of specs/ or proofs/ (a definition, a lemma, a field, a constructor), and wherever it is cited: in
 specs/, in proofs/, in the clauses and comments of src/, and in the edits. Types and modules keep their names, and so do functions of src/ and the
-names of goals. Where two names fall together, the lemma gets `_lem` (TOGETHER says which).
+names of goals. Where two names fall together, the one with a dash gets `_lem` (TOGETHER has the other cases).
 """
 import glob
 import re
 import sys
 
-# Names that would fall together with another one: (folder, name, new name). The longest folder that fits is taken.
+# Names that would fall together with another one: (folder, name, new name). The last one that fits is taken.
 TOGETHER = [
     ("crates/door/proofs", "no_words", "no_words_lem"),
     ("crates/selection/proofs", "sets_below", "sets_below_lem"),

@@ -53,7 +53,7 @@ def edits_of(root, crate, folders=FOLDERS):
 
 def edited(folder, edit):
     """The files of a crate's folder that an edit changes, as they were and as they become. A text to replace must stand there once."""
-    were, are = {}, {}
+    were, are, file, old = {}, {}, None, None
     for line in edit.read_text().splitlines():
         if line.startswith("file: "):
             file = folder / line[6:]
@@ -62,6 +62,8 @@ def edited(folder, edit):
         elif line.startswith("old: "):
             old = line[5:]
         elif line.startswith("new:"):
+            if file is None or old is None:
+                raise ValueError("%s/%s: a new text stands before its file or the text that it replaces" % (folder.name, edit.name))
             if are[file].count(old) != 1:
                 raise ValueError("%s/%s: a text that it replaces stands %d times in %s" % (folder.name, edit.name, are[file].count(old), file.name))
             are[file] = are[file].replace(old, line[4:].removeprefix(" "))

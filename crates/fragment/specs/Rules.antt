@@ -1,5 +1,5 @@
 -- Kinds 5 to 9 as executable definitions: whether a fragment or an operation breaks a rule, the lowest that does, and the kinds in their
--- order (the table of kinds). What they mean is in specs/Meaning.
+-- order (the table of kinds in README). What they mean is in specs/Meaning.
 -- Assumes nothing.
 use Rattle.std.specs.Prelude.{ℕ, ◌*◌, min, Bool, not, List, eqb, leb, ltb, length, get_or, replicate}
 use Rattle.std.proofs.Math.Option.{Option, none, some}

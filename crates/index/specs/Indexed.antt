@@ -1,5 +1,5 @@
 -- Words that can be searched by key: the keys, then two links for each place.
---     first_place        what a search is to find
+--     first_place       what a search is to find
 --     Finds, passed     how the links lead there, and over how many places
 --     Linked, Indexed   some places, or all, are found by the links
 --     Links, Built      one place more is linked, or all are

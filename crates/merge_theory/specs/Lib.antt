@@ -1,4 +1,5 @@
 -- The merge walk and the rule that it decides: all that a reader must believe. The theorems are in proofs/Theorems.antt.
+-- What stands in quotation marks in these files is in the words of the check's description.
 --     Lists         membership, and the list functions below
 --     Document      an abstract document, and what is assumed of it
 --     Expand        expanding, as a relation and by the queue

@@ -1,4 +1,4 @@
--- Specimens that concern the walk, and more of queue, order and charge: documents given by tables, and one table of replies that
+-- Specimens of the walk, and of its queue, order and charges: documents given by tables, and one table of replies that
 -- antt computes. Assumes nothing.
 use Rattle.std.specs.Prelude.{◌≡◌, refl, Bool, true, false, List, [], ◌∷◌, map, ℕ, eqb, length, get_or}
 use Rattle.std.proofs.Math.Option.{Option, none, some}

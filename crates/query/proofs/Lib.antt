@@ -1,6 +1,6 @@
 -- The theorems about the reply, and the laws that they and the proofs of the check cite. Theorems says all that is proved of the reply; the
 -- rest is how, in this order.
---     Theorems       the visitor's page: the three promises, with one-line proofs
+--     Theorems       the visitor's page: the three promises of docs/STATEMENTS.md, with one-line proofs
 --     SpecimensHold  specimens, by computation; SpecimenRows: those of the crates below break no row rule
 --     Cases          every reply has a cause; Once: a cause determines the reply
 --     Answers        what each cause says of the reply and of the image

@@ -1,4 +1,4 @@
--- Which cause a reply has, one case for each stage, in the order of the table of kinds; for any engine that goes through operations.
+-- Which cause a reply has, one case for each stage, in the order of the table of kinds in README; for any engine that goes through operations.
 use Rattle.std.specs.Prelude.{ℕ, suc, ◌<◌, ◌≡◌, List}
 use Rattle.std.proofs.Math.Option.{none, some}
 use Rattle.merge_theory.specs.Document.{Cause, number_of}

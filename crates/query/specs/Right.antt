@@ -1,5 +1,5 @@
 -- What the theorems say of an image, beside its reply: no cause of 1 to 13 exists, the budget covers the walk, every rule holds. Hold it beside
--- the three promises.
+-- the three promises of docs/STATEMENTS.md.
 use Rattle.std.specs.Prelude.{ℕ, ◌<◌, ◌≡◌, List, [], ◌∷◌}
 use Rattle.std.proofs.Math.Option.{none}
 use Rattle.merge_theory.specs.Document.{shape}

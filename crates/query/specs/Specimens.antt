@@ -1,4 +1,4 @@
--- Specimens of the whole check, a budget over the limit, and three on the walk's order: images, budgets, scratch, and the five
+-- Specimens of the whole check, among them a budget over the limit and three on the walk's order: images, budgets, scratch, and the five
 -- numbers of each reply. Written by tools/check_specimens.py. Assumes nothing.
 use Rattle.std.specs.Prelude.{ℕ, List, [], ◌∷◌}
 use Rattle.selection.specs.declared.arena.Reply.{Reply}

@@ -1,4 +1,4 @@
--- Which stage of the check decides a kind (the table of kinds), and the order of the stages. Theorems tell kinds apart by their
+-- Which stage of the check decides a kind (the table of kinds in README), and the order of the stages. Theorems tell kinds apart by their
 -- stage, never by where a number lies between others: new numbers come at the end of this list, whatever their stage.
 use Rattle.std.specs.Prelude.{ℕ, List, [], ◌∷◌, get_or}
 

@@ -1,6 +1,6 @@
 -- The sets that some sets reach (kinds 5, 9, 12 and 13): as relations, as a worklist, and as the walk's contract says it.
 --     Leads, Reaches, SpreadsIn    the relations
---     reached_from                  the worklist: every set once, with a mark
+--     reached_from                 the worklist: every set once, with a mark
 --     Holds, Walks, Walked         what the lent words hold, before and after
 -- Assumes nothing.
 use Rattle.std.specs.Prelude.{ℕ, zero, suc, ◌+◌, ◌*◌, ◌≤◌, ◌<◌, ◌≡◌, cond, List, [], ◌∷◌, ◌++◌, eqb, ltb, length, get_or, set, replicate}

@@ -1,5 +1,5 @@
--- Kind 4 in words: what each row keeps, by table, that nothing is left
--- over, and which row is shown where something breaks. Relations over the rows, no tests and no steps; proofs/Exactly says that the
+-- Kind 4 by meaning: what each row keeps, by table (the rules in quotation marks are the words of the check's description), that nothing is
+-- left over, and which row is shown where something breaks. Relations over the rows, no tests and no steps; proofs/Exactly says that the
 -- tests of the check are these. A row is judged by lower tables and lower rows, which keep theirs wherever it is the one at fault.
 -- Assumes nothing.
 use Rattle.std.specs.Prelude.{ℕ, suc, ◌+◌, ◌<◌, ◌≤◌, ◌≡◌, ◌⊎◌, List}

@@ -1,4 +1,4 @@
--- Kind 4: the first row rule that is broken, and what is left unclaimed (the table of kinds).
+-- Kind 4: the first row rule that is broken, and what is left unclaimed (the table of kinds in README).
 -- Assumes nothing.
 use Rattle.std.specs.Prelude.{ℕ, ◌<◌, ◌≡◌, Bool, true, not, List, [], ◌∷◌, leb, length, get_or}
 use Rattle.std.proofs.Math.Option.{Option, none, some}

@@ -43,7 +43,7 @@ module _ (image : List ℕ) (e n : ℕ) (good : first_fault (table_fault image e
     inside = λ t h. omega (arith, grows (suc t) n h (le_refl n));
   }
 
--- every edition so far has these nine tables
+-- every edition so far has nine tables
 pub nine_exactly : (e : ℕ) → table_count e ≡ 9
 unfolding table_count
 nine_exactly e = ap length (one_edition e)

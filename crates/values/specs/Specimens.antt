@@ -1,4 +1,4 @@
--- Specimens of values and types, and more of the kind: fields of one small image of edition 1, and what each pair is
+-- Specimens of values and types: fields of one small image of edition 1, and what each pair is
 -- by its types and by its arguments. One table that antt computes.
 -- Assumes nothing.
 use Rattle.std.specs.Prelude.{◌≡◌, refl, Bool, true, false, List, [], ◌∷◌, map, ℕ}

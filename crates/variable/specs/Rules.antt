@@ -1,6 +1,6 @@
 -- The rules on an operation's variables, written from the specification of October 2021 (5.8.1, 5.8.2, 5.8.4, 5.8.5) over what an
--- operation reaches: relations, no words of scratch and no steps. A type is the one that a reference stands for. The gaps are
--- said where they are.
+-- operation reaches: relations, no words of scratch and no steps. A type is the one that a reference stands for. What the
+-- check leaves out of these rules is said at the rule.
 -- Assumes nothing.
 use Rattle.std.specs.Prelude.{ℕ, ◌<◌, ◌≤◌, ◌≡◌, true, List, eqb}
 use Rattle.std.proofs.Math.Option.{Option, none, some}
@@ -92,8 +92,8 @@ module _ (image : List ℕ) (i : ℕ) where
     pub defined : Defines v
     pub unused : UsesName (variable_name image v) → ⊥
 
-  -- ---- 5.8.5 All Variable Usages Are Allowed: IsVariableUsageAllowed of each usage. The gaps: a usage in a list or an
-  -- object is passed over, and so is one that the operation does not define
+  -- ---- 5.8.5 All Variable Usages Are Allowed: IsVariableUsageAllowed of each usage. Left out by the check: a usage in a
+  -- list or an object, and one that the operation does not define
 
   -- argument a is variable v
   pub record IsUsage (v a : ℕ) : Type 0 where

@@ -1,4 +1,4 @@
--- `expand::expand_selections` meets its contract. The loop's invariant: so many sets have left the queue. A word counts them, so it ends.
+-- The loop of `expand::expand_selections`. Its invariant: so many sets have left the queue. A word counts them, so it ends.
 -- Assumes nothing.
 use Prim.Native.Nat.{◌-◌}
 use Rattle.expand.proofs.ExpandWalk.{Underway}

@@ -1,4 +1,4 @@
--- `expand::expand_set` meets its contract. The loop's invariant: i rows of the set are done. Assumes nothing.
+-- The loop of `expand::expand_set`. Its invariant: i rows of the set are done. Assumes nothing.
 use Prim.Native.Nat.{◌≤◌, ◌-◌}
 use Rattle.expand.specs.ExpandSteps.{Steps}
 use Rattle.expand.specs.ImageDocument.{up_from}

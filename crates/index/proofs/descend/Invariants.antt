@@ -1,4 +1,4 @@
--- `descend` meets its contract. The loop's invariant: what the search is to find it finds from here. Assumes nothing.
+-- The loop of `descend`. Its invariant: what the search is to find it finds from here. Assumes nothing.
 use Prim.Native.Nat.{◌-◌, ◌<◌}
 use Rattle.index.specs.Indexed.{first_place, Finds, Indexed}
 use Rattle.index.proofs.descend.Given as goal

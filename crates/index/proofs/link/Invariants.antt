@@ -1,4 +1,4 @@
--- `link` meets its contract. The loop's invariant: a search is under way. Assumes nothing.
+-- The loop of `link`. Its invariant: a search is under way. Assumes nothing.
 use mathlib.Core.Path.{◌≡◌}
 use Prim.Native.Nat.{◌-◌, ◌<◌}
 use lib.ListN.{length}

@@ -1,4 +1,4 @@
--- `link_all` meets its contract. The loop's invariant: the places passed are linked, and their first places told. Assumes nothing.
+-- The loop of `link_all`. Its invariant: the places passed are linked, and their first places told. Assumes nothing.
 use Prim.Native.Nat.{◌-◌, ◌<◌, ◌≤◌}
 use Rattle.index.specs.Indexed.{Linked}
 use Rattle.index.proofs.FirstsLaws.{Told}

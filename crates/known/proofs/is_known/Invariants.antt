@@ -1,4 +1,4 @@
--- `is_known` meets its contract. The loop's invariant: the lists that are still to be looked at decide.
+-- The loop of `is_known`. Its invariant: the lists that are still to be looked at decide.
 use mathlib.Core.Path.{◌≡◌}
 use mathlib.Core.List.{List}
 use Prim.Native.Nat.{ℕ, ◌+◌, ◌<◌}

@@ -1,4 +1,4 @@
--- `same_rows` meets its contract. The loop's invariant: the words passed are the same.
+-- The loop of `same_rows`. Its invariant: the words passed are the same.
 use lib.Dec.{eqb}
 use lib.ListN.{get_or}
 use Prim.Native.Nat.{ℕ, ◌+◌, ◌-◌, ◌<◌, ◌≤◌}

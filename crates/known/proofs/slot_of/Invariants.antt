@@ -1,4 +1,4 @@
--- `slot_of` meets its contract. The loop's invariant: the key of the rows passed.
+-- The loop of `slot_of`. Its invariant: the key of the rows passed.
 use mathlib.Core.Path.{◌≡◌}
 use Prim.Native.Nat.{◌-◌, ◌≤◌}
 use Rattle.known.specs.KnownLists.{key_words}

@@ -1,4 +1,4 @@
--- `lists::clear` meets its contract. The loop's invariant: i words at the place are 0, and the rest is as before.
+-- The loop of `lists::clear`. Its invariant: i words at the place are 0, and the rest is as before.
 -- Assumes nothing.
 use mathlib.Core.Path.{◌≡◌}
 use Prim.Native.Nat.{◌≤◌, ◌-◌}

@@ -1,4 +1,4 @@
--- `reach::start_sets` meets its contract. The loop's invariant: the sets passed are met, from a walk that has met none.
+-- The loop of `reach::start_sets`. Its invariant: the sets passed are met, from a walk that has met none.
 -- Assumes nothing.
 use Prim.Native.Nat.{◌-◌, ◌≤◌}
 use Rattle.reach.specs.Turns.{turns}

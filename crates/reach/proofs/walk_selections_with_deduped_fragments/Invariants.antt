@@ -1,4 +1,4 @@
--- `reach::walk_selections_with_deduped_fragments` meets its contract. The loop's invariant: the sets passed are walked, and
+-- The loop of `reach::walk_selections_with_deduped_fragments`. Its invariant: the sets passed are walked, and
 -- what is left of the walk leads to the whole walk's end. Assumes nothing.
 use Prim.Native.Nat.{◌-◌, ◌<◌}
 use Rattle.reach.proofs.WalkLaws.{Going}

@@ -1,4 +1,4 @@
--- `reach::walk_set` meets its contract. The loop's invariant: the rows passed are walked. Assumes nothing.
+-- The loop of `reach::walk_set`. Its invariant: the rows passed are walked. Assumes nothing.
 use Prim.Native.Nat.{◌-◌, ◌≤◌}
 use Rattle.reach.specs.Turns.{turns}
 use Rattle.tables.specs.Image.{row_in}

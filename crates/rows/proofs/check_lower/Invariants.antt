@@ -1,4 +1,4 @@
--- `rows::check_lower` meets its contract. The loop's invariant: no row of a table passed breaks its rule. Assumes nothing.
+-- The loop of `rows::check_lower`. Its invariant: no row of a table passed breaks its rule. Assumes nothing.
 use Prim.Native.Nat.{◌-◌, ◌≤◌}
 use mathlib.Core.Path.{◌≡◌}
 use mathlib.Core.Option.{none}

@@ -1,4 +1,4 @@
--- The proof of the cycle of calls {same_list, same_set, same_value}. `same_value` calls the other two one level down, and they
+-- The invariants and measures of the cycle of calls {same_list, same_set, same_value}. `same_value` calls the other two one level down, and they
 -- call it at their own level, so their measure lies between: 2 × level for `same_value`, 2 × level + 1 for the others.
 -- The loops' invariants: the members passed are the same; the rows passed have their match on the right. Assumes nothing.
 use mathlib.Core.Path.{◌≡◌}

@@ -1,4 +1,4 @@
--- `values::are_keys_within` meets its contract. The loop's invariant: each key passed is one of `outer`'s. Assumes nothing.
+-- The loop of `values::are_keys_within`. Its invariant: each key passed is one of `outer`'s. Assumes nothing.
 use mathlib.Core.Path.{◌≡◌}
 use mathlib.Core.Bool.{true}
 use Prim.Native.Nat.{ℕ, ◌-◌, ◌<◌, ◌≤◌}

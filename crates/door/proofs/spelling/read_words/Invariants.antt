@@ -1,4 +1,4 @@
--- `spelling::read_words` meets its contract. The loop's invariant: the first i words are read, or as many as there is room for. Assumes nothing.
+-- The loop of `spelling::read_words`. Its invariant: the first i words are read, or as many as there is room for. Assumes nothing.
 use Prim.Native.Nat.{◌-◌, ◌≤◌, min}
 use mathlib.Core.Path.{◌≡◌}
 use lib.ListN.{length}

@@ -1,4 +1,4 @@
--- `heights::measure_in_order` meets its contract. The loop's invariant: the turns so far went well, and nothing but heights has changed.
+-- The loop of `heights::measure_in_order`. Its invariant: the turns so far went well, and nothing but heights has changed.
 -- Assumes nothing.
 use Prim.Native.Nat.{◌*◌, ◌-◌, ◌≤◌}
 use mathlib.Core.Path.{◌≡◌}

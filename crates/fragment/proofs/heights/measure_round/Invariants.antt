@@ -1,4 +1,4 @@
--- `heights::measure_round` meets its contract. The loop's invariant: what is left of the round ends where the whole ends.
+-- The loop of `heights::measure_round`. Its invariant: what is left of the round ends where the whole ends.
 -- Assumes nothing.
 use mathlib.Core.Path.{◌≡◌}
 use lib.ListN.{length}

@@ -1,4 +1,4 @@
--- `heights::measure_sets` meets its contract. The loop's invariant: after k rounds the heights cover chains with fewer than k spreads.
+-- The loop of `heights::measure_sets`. Its invariant: after k rounds the heights cover chains with fewer than k spreads.
 -- Assumes nothing.
 use Prim.Native.Nat.{◌+◌, ◌*◌, ◌-◌, ◌≤◌}
 use lib.ListN.{length}

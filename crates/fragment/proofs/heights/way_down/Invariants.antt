@@ -1,4 +1,4 @@
--- `heights::way_down` meets its contract. The loop's invariant: the height is the highest of the selections passed, and whether all of
+-- The loop of `heights::way_down`. Its invariant: the height is the highest of the selections passed, and whether all of
 -- these lead lower is as said. Assumes nothing.
 use mathlib.Core.Path.{◌≡◌}
 use Prim.Native.Nat.{◌≤◌, ◌-◌}

@@ -1,4 +1,4 @@
--- `rise::highest_rise` meets its contract. The loop's invariant: the rise is the greatest of the sets passed. Assumes nothing.
+-- The loop of `rise::highest_rise`. Its invariant: the rise is the greatest of the sets passed. Assumes nothing.
 use mathlib.Core.Path.{◌≡◌}
 use Prim.Native.Nat.{◌≤◌, ◌-◌}
 use Rattle.fragment.specs.Rise.{highest_rise}

@@ -1,4 +1,4 @@
--- `rise::rise_from` meets its contract. The loop's invariant: the rise is the greatest of the selections passed. Assumes nothing.
+-- The loop of `rise::rise_from`. Its invariant: the rise is the greatest of the selections passed. Assumes nothing.
 use mathlib.Core.Path.{◌≡◌}
 use Prim.Native.Nat.{◌≤◌, ◌-◌}
 use Rattle.fragment.specs.Rise.{rise_in}

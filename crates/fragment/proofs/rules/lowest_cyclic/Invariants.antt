@@ -1,4 +1,4 @@
--- `rules::lowest_cyclic` meets its contract. The loop's invariant: none of those passed fails. Assumes nothing.
+-- The loop of `rules::lowest_cyclic`. Its invariant: none of those passed fails. Assumes nothing.
 use mathlib.Core.Path.{◌≡◌}
 use Prim.Native.Nat.{ℕ, ◌-◌, ◌<◌, ◌≤◌}
 use mathlib.Core.Bool.{false}

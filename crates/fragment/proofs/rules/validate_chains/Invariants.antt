@@ -1,4 +1,4 @@
--- `rules::validate_chains` meets its contract. The loop's invariant: none of those passed fails. Assumes nothing.
+-- The loop of `rules::validate_chains`. Its invariant: none of those passed fails. Assumes nothing.
 use mathlib.Core.Path.{◌≡◌}
 use lib.Dec.{leb}
 use Prim.Native.Nat.{ℕ, ◌-◌, ◌<◌, ◌≤◌}

@@ -1,4 +1,4 @@
--- `rules::validate_fragments_used` meets its contract. The loop's invariant: none of those passed fails. Assumes nothing.
+-- The loop of `rules::validate_fragments_used`. Its invariant: none of those passed fails. Assumes nothing.
 use Prim.Native.Nat.{ℕ, ◌-◌, ◌<◌, ◌≤◌}
 use mathlib.Core.Bool.{false}
 use mathlib.Core.Path.{◌≡◌}

@@ -1,4 +1,4 @@
--- `rules::validate_links` meets its contract. The loop's invariant: none of those passed fails. Assumes nothing.
+-- The loop of `rules::validate_links`. Its invariant: none of those passed fails. Assumes nothing.
 use lib.Dec.{ltb}
 use Prim.Native.Nat.{ℕ, ◌-◌, ◌<◌, ◌≤◌}
 use mathlib.Core.Bool.{false}

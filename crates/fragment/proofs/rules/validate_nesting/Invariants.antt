@@ -1,4 +1,4 @@
--- `rules::validate_nesting` meets its contract. The loop's invariant: none of those passed fails. Assumes nothing.
+-- The loop of `rules::validate_nesting`. Its invariant: none of those passed fails. Assumes nothing.
 use lib.Dec.{ltb}
 use Prim.Native.Nat.{ℕ, ◌-◌, ◌<◌, ◌≤◌}
 use mathlib.Core.Bool.{false}

@@ -1,4 +1,4 @@
--- `needed::rows_in_all` meets its contract. The loop's invariant: the sum is that of the tables passed. Assumes nothing.
+-- The loop of `needed::rows_in_all`. Its invariant: the sum is that of the tables passed. Assumes nothing.
 use mathlib.Core.Path.{◌≡◌}
 use Prim.Native.Nat.{◌-◌, ◌*◌, ◌≤◌}
 use Rattle.lists.specs.Every.{total}

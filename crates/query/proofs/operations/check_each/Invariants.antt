@@ -1,4 +1,4 @@
--- `operations::check_each` meets its contract. The loop's invariant: the operations passed leave the reply to the others.
+-- The loop of `operations::check_each`. Its invariant: the operations passed leave the reply to the others.
 -- Assumes nothing.
 use Prim.Native.Nat.{◌-◌}
 use mathlib.Core.Path.{◌≡◌}

@@ -1,4 +1,4 @@
--- `plain_rows::first_bad` meets its contract. The loop's invariant: every row passed is good. Assumes nothing.
+-- The loop of `plain_rows::first_bad`. Its invariant: every row passed is good. Assumes nothing.
 use mathlib.Core.Bool.{true}
 use Prim.Native.Nat.{ℕ, ◌-◌, ◌<◌, ◌≤◌}
 use mathlib.Core.Path.{◌≡◌}

@@ -1,4 +1,4 @@
--- `selections::check_selections` meets its contract. The loop's invariant: the rows of the sets passed are good, and the row at
+-- The loop of `selections::check_selections`. Its invariant: the rows of the sets passed are good, and the row at
 -- hand is where the set at hand starts. Assumes nothing.
 use Prim.Native.Nat.{◌-◌}
 use Rattle.rows.proofs.SelectionPass.{AtSet}

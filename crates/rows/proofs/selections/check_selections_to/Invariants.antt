@@ -1,4 +1,4 @@
--- `selections::check_selections_to` meets its contract. The loop's invariant: what it takes for granted holds of the row at hand.
+-- The loop of `selections::check_selections_to`. Its invariant: what it takes for granted holds of the row at hand.
 -- Assumes nothing.
 use Prim.Native.Nat.{◌-◌}
 use Rattle.rows.specs.SelectionPass.{Passing}

@@ -1,4 +1,4 @@
--- `value_rows::are_list_keys_good` meets its contract. The loop's invariant: each row passed has key NONE. Assumes nothing.
+-- The loop of `value_rows::are_list_keys_good`. Its invariant: each row passed has key NONE. Assumes nothing.
 use mathlib.Core.Bool.{true}
 use lib.Dec.{eqb}
 use mathlib.Core.Path.{◌≡◌}

@@ -1,4 +1,4 @@
--- `value_rows::check_values` meets its contract. The loop's invariant: all rows passed are good, and the running numbers are those
+-- The loop of `value_rows::check_values`. Its invariant: all rows passed are good, and the running numbers are those
 -- of the definitions. Assumes nothing.
 use Prim.Native.Nat.{◌-◌}
 use Rattle.rows.proofs.ValuePass.{Passed}

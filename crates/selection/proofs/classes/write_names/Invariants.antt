@@ -1,4 +1,4 @@
--- `classes::write_names` meets its contract. The loop's invariant: the keys of the rows before this one are written. Assumes nothing.
+-- The loop of `classes::write_names`. Its invariant: the keys of the rows before this one are written. Assumes nothing.
 use Prim.Native.Nat.{◌*◌, ◌-◌, ◌≤◌}
 use Rattle.tables.specs.Columns.{response_name}
 use Rattle.selection.specs.Classing.{Written}

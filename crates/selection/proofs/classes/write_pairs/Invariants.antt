@@ -1,4 +1,4 @@
--- `classes::write_pairs` meets its contract. The loop's invariant: the keys of the rows before this one are written. Assumes nothing.
+-- The loop of `classes::write_pairs`. Its invariant: the keys of the rows before this one are written. Assumes nothing.
 use Prim.Native.Nat.{◌*◌, ◌-◌, ◌≤◌}
 use Rattle.selection.specs.Classing.{pair_key, Written}
 use Rattle.selection.proofs.classes.write_pairs.Given as goal

@@ -1,4 +1,4 @@
--- `groups::find_group` meets its contract. The loop's invariant: the places passed fail. Assumes nothing.
+-- The loop of `groups::find_group`. Its invariant: the places passed fail. Assumes nothing.
 use Prim.Native.Nat.{◌-◌}
 use lib.Dec.{eqb}
 use Rattle.selection.specs.Following.{link_at}

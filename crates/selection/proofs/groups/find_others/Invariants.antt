@@ -1,4 +1,4 @@
--- `groups::find_others` meets its contract. The loop's invariant: the fields of the name that were passed have objects for parents.
+-- The loop of `groups::find_others`. Its invariant: the fields of the name that were passed have objects for parents.
 -- Assumes nothing.
 use Prim.Native.Nat.{◌-◌}
 use Rattle.selection.proofs.FollowLaws.{OnName, others_of}

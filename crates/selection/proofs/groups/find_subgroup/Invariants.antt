@@ -1,4 +1,4 @@
--- `groups::find_subgroup` meets its contract. The loop's invariant: the fields of the name that were passed open none. Assumes nothing.
+-- The loop of `groups::find_subgroup`. Its invariant: the fields of the name that were passed open none. Assumes nothing.
 use Prim.Native.Nat.{◌-◌}
 use Rattle.selection.proofs.FollowLaws.{OnName, opens_of}
 use Rattle.selection.proofs.groups.find_subgroup.Given as goal

@@ -1,4 +1,4 @@
--- `links::link` meets its contract. The loop's invariant: the places below this one are linked. Assumes nothing.
+-- The loop of `links::link`. Its invariant: the places below this one are linked. Assumes nothing.
 use mathlib.Core.Path.{◌≡◌}
 use Prim.Native.Nat.{ℕ, ◌-◌, ◌≤◌}
 use lib.ListN.{length}

@@ -1,4 +1,4 @@
--- `parents::fill_parent` meets its contract. The loop's invariant: the words of i rows are written. Assumes nothing.
+-- The loop of `parents::fill_parent`. Its invariant: the words of i rows are written. Assumes nothing.
 use Prim.Native.Nat.{◌≤◌, ◌-◌}
 use Rattle.selection.specs.Parents.{Filled}
 use Rattle.selection.proofs.parents.fill_parent.Given as goal

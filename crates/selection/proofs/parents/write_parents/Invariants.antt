@@ -1,4 +1,4 @@
--- `parents::write_parents` meets its contract. The loop's invariant: the words of the rows of i sets are written.
+-- The loop of `parents::write_parents`. Its invariant: the words of the rows of i sets are written.
 -- Assumes nothing.
 use mathlib.Core.Path.{◌≡◌}
 use Prim.Native.Nat.{◌≤◌, ◌-◌}

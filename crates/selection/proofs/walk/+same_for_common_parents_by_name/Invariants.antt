@@ -1,4 +1,4 @@
--- The proof of the cycle of calls {same_for_common_parents_by_name}: the parent pass calls itself on a list that it met, with a level
+-- The invariant and the measures of the cycle of calls {same_for_common_parents_by_name}: the parent pass calls itself on a list that it met, with a level
 -- less. The loop's invariant: the subgroups before the cursor have been walked. Assumes nothing.
 use mathlib.Core.Bool.{false}
 use Prim.Native.Nat.{◌-◌}

@@ -1,4 +1,4 @@
--- The proof of the cycle of calls {same_response_shape_by_name}: the shape pass calls itself on a list that it met, with a level less.
+-- The invariant and the measures of the cycle of calls {same_response_shape_by_name}: the shape pass calls itself on a list that it met, with a level less.
 -- The loop's invariant: the groups before the place have been walked. Assumes nothing.
 use mathlib.Core.Bool.{true}
 use Prim.Native.Nat.{◌-◌}

@@ -1,4 +1,4 @@
--- `walk::compare_segment` meets its contract. The loop's invariant: what is left decides. Assumes nothing.
+-- The loop of `walk::compare_segment`. Its invariant: what is left decides. Assumes nothing.
 use Prim.Native.Nat.{◌-◌}
 use Rattle.selection.proofs.CompareLaws.{Comparing}
 use Rattle.selection.proofs.walk.compare_segment.Given as goal

@@ -1,4 +1,4 @@
--- `walk::meet_subgroup` meets its contract: a law for each way out. Assumes nothing.
+-- `walk::meet_subgroup` meets its contract: a part that is bare; the other way out needs no answer. Assumes nothing.
 use mathlib.Core.Bool.{false}
 use Rattle.selection.proofs.PartMeets.{part_bare}
 use Rattle.selection.proofs.walk.meet_subgroup.Goals as goal

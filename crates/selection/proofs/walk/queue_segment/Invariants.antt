@@ -1,4 +1,4 @@
--- `walk::queue_segment` meets its contract. The loop's invariant: the sets of the fields passed stand in the queue. Assumes nothing.
+-- The loop of `walk::queue_segment`. Its invariant: the sets of the fields passed stand in the queue. Assumes nothing.
 use Prim.Native.Nat.{◌-◌}
 use Rattle.selection.proofs.QueueingLaws.{Queueing}
 use Rattle.selection.proofs.walk.queue_segment.Given as goal

@@ -1,4 +1,4 @@
--- `columns::innermost` meets its contract. The loop's invariant: the row at hand has the reference's innermost type.
+-- The loop of `columns::innermost`. Its invariant: the row at hand has the reference's innermost type.
 -- Assumes nothing.
 use mathlib.Core.Path.{◌≡◌}
 use Rattle.tables.specs.Columns.{innermost}

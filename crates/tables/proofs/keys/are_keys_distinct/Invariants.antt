@@ -1,4 +1,4 @@
--- `keys::are_keys_distinct` meets its contract. The loop's invariant: each row passed is the first of its key.
+-- The loop of `keys::are_keys_distinct`. Its invariant: each row passed is the first of its key.
 -- Assumes nothing.
 use mathlib.Core.Bool.{true}
 use Prim.Native.Nat.{ℕ, ◌-◌, ◌<◌, ◌≤◌}

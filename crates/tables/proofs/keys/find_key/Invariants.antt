@@ -1,4 +1,4 @@
--- `keys::find_key` meets its contract. The loop's invariant: no row passed has the key. Assumes nothing.
+-- The loop of `keys::find_key`. Its invariant: no row passed has the key. Assumes nothing.
 use Prim.Native.Nat.{ℕ, ◌-◌, ◌<◌, ◌≤◌}
 use mathlib.Core.Path.{◌≡◌}
 use lib.Dec.{eqb}

@@ -1,4 +1,4 @@
--- `shape::same_output_type_shape` meets its contract. The loop's invariant: the two rows at hand have one shape exactly if the two
+-- The loop of `shape::same_output_type_shape`. Its invariant: the two rows at hand have one shape exactly if the two
 -- references have; the left row falls.
 -- Assumes nothing.
 use mathlib.Core.Path.{◌≡◌}

@@ -1,4 +1,4 @@
--- `definitions::validate_input_types` meets its contract. The loop's invariant: no row passed is one of kind 10. Assumes nothing.
+-- The loop of `definitions::validate_input_types`. Its invariant: no row passed is one of kind 10. Assumes nothing.
 use mathlib.Core.Path.{◌≡◌}
 use Prim.Native.Nat.{ℕ, ◌-◌, ◌<◌, ◌≤◌}
 use mathlib.Core.Bool.{false}

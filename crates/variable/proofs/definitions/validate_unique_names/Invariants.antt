@@ -1,4 +1,4 @@
--- `definitions::validate_unique_names` meets its contract. The loop's invariant: each row passed is the first of its name. Assumes nothing.
+-- The loop of `definitions::validate_unique_names`. Its invariant: each row passed is the first of its name. Assumes nothing.
 use mathlib.Core.Path.{◌≡◌}
 use Prim.Native.Nat.{ℕ, ◌-◌, ◌<◌, ◌≤◌}
 use lib.Dec.{eqb}

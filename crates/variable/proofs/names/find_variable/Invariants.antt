@@ -1,4 +1,4 @@
--- `names::find_variable` meets its contract. The loop's invariant: no row passed has the name. Assumes nothing.
+-- The loop of `names::find_variable`. Its invariant: no row passed has the name. Assumes nothing.
 use mathlib.Core.Path.{◌≡◌}
 use Prim.Native.Nat.{ℕ, ◌-◌, ◌<◌, ◌≤◌}
 use mathlib.Core.Bool.{false}

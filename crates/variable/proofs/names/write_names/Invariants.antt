@@ -1,4 +1,4 @@
--- `names::write_names` meets its contract. The loop's invariant: the names passed are written. Assumes nothing.
+-- The loop of `names::write_names`. Its invariant: the names passed are written. Assumes nothing.
 use Prim.Native.Nat.{◌-◌, ◌≤◌}
 use Rattle.variable.proofs.NameLaws.{Writing}
 use Rattle.variable.proofs.names.write_names.Given as goal

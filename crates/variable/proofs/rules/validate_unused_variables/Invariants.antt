@@ -1,4 +1,4 @@
--- `rules::validate_unused_variables` meets its contract. The loop's invariant: the variables passed are marked. Assumes nothing.
+-- The loop of `rules::validate_unused_variables`. Its invariant: the variables passed are marked. Assumes nothing.
 use mathlib.Core.Path.{◌≡◌}
 use lib.Dec.{eqb}
 use Prim.Native.Nat.{ℕ, ◌-◌, ◌<◌, ◌≤◌}

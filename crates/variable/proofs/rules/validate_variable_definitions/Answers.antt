@@ -1,4 +1,4 @@
--- `rules::validate_variable_definitions` meets its contract.: a law for each `return`. Assumes nothing.
+-- `rules::validate_variable_definitions` meets its contract: a law for each `return`. Assumes nothing.
 use native.Mathlib.Omega.{arith}
 use Rattle.variable.proofs.VerdictLaws.{no_variables, output_found, repeated_found, uses_judged, judged_early, judged_named, judged_late}
 use Rattle.variable.proofs.rules.validate_variable_definitions.Goals as goal

@@ -1,4 +1,4 @@
--- `rules::validate_variable_usage` meets its contract. The loop's invariant: the arguments passed are allowed where they are reached. Assumes nothing.
+-- The loop of `rules::validate_variable_usage`. Its invariant: the arguments passed are allowed where they are reached. Assumes nothing.
 use mathlib.Core.Path.{◌≡◌}
 use mathlib.Core.Bool.{true}
 use Prim.Native.Nat.{ℕ, suc, ◌-◌, ◌<◌, ◌≤◌}

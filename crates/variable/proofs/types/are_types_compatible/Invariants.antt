@@ -1,4 +1,4 @@
--- `types::are_types_compatible` meets its contract. The loop's invariant: the rows at hand are as compatible as those given.
+-- The loop of `types::are_types_compatible`. Its invariant: the rows at hand are as compatible as those given.
 -- Assumes nothing.
 use mathlib.Core.Path.{◌≡◌}
 use Rattle.variable.specs.Definitions.{compatible}

@@ -1,4 +1,4 @@
--- `uses::mark_variables` meets its contract. The loop's invariant: the rows passed are used as they should. Assumes nothing.
+-- The loop of `uses::mark_variables`. Its invariant: the rows passed are used as they should. Assumes nothing.
 use Prim.Native.Nat.{◌-◌, ◌≤◌}
 use Rattle.variable.specs.Names.{Searches}
 use Rattle.variable.proofs.UseLaws.{Passing}

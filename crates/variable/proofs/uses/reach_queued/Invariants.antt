@@ -1,4 +1,4 @@
--- `uses::reach_queued` meets its contract. The loop's invariant: the sets passed are reached. Assumes nothing.
+-- The loop of `uses::reach_queued`. Its invariant: the sets passed are reached. Assumes nothing.
 use Prim.Native.Nat.{◌-◌, ◌≤◌}
 use Rattle.variable.proofs.UseLaws.{Queueing}
 use Rattle.variable.proofs.uses.reach_queued.Given as goal

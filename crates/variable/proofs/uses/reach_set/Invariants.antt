@@ -1,4 +1,4 @@
--- `uses::reach_set` meets its contract. The loop's invariant: the rows passed are reached. Assumes nothing.
+-- The loop of `uses::reach_set`. Its invariant: the rows passed are reached. Assumes nothing.
 use Prim.Native.Nat.{◌-◌, ◌≤◌}
 use Rattle.variable.specs.Uses.{reach_selection, Steps}
 use Rattle.tables.specs.Image.{row_in}
