@@ -27,15 +27,10 @@ const REPLY_WORDS: usize = 5;
 fn refuse_bytes(length: usize) -> Reply
     ensures { result ≡ no_words length }
 {
-    let shown = if length < (NONE as usize) {
-        length as u32
-    } else {
-        NONE
-    };
     Reply {
         kind: 18,
         operation: 0,
-        a: shown,
+        a: u32::try_from(length).unwrap_or(NONE),
         b: 0,
         used: 0,
     }
@@ -53,17 +48,22 @@ fn check_words(bytes: &[u8], n: u32, budget: u32) -> Reply
     check(&words[..end], budget, &mut scratch)
 }
 
+#[tactic(auto, unfolding(crate::specs::Door::reply_to_bytes))]
 fn check_bytes(bytes: &[u8], budget: u32) -> Reply
     ensures { result ≡ reply_to_bytes bytes.now budget }
 {
     let length = bytes.len();
-    if length % 4 != 0 {
-        return refuse_bytes(length);
-    }
-    if MOST_BYTES < length {
+    if length % 4 != 0 || MOST_BYTES < length {
         return refuse_bytes(length);
     }
     check_words(bytes, (length / 4) as u32, budget)
+}
+
+// The five words of a reply, as the caller reads them.
+fn words_of_reply(r: Reply) -> [u32; 5]
+    ensures { result ≡ reply_words r }
+{
+    [r.kind, r.operation, r.a, r.b, r.used]
 }
 
 fn store_reply(out: &mut [u8], r: Reply)
@@ -77,18 +77,8 @@ fn store_reply(out: &mut [u8], r: Reply)
     store_word(out, 16, r.used);
 }
 
-fn store_words(out: &mut [u32], r: Reply)
-    requires { length out.old ≡ 5 }
-    ensures { out.new ≡ reply_words r }
-{
-    out[0] = r.kind;
-    out[1] = r.operation;
-    out[2] = r.a;
-    out[3] = r.b;
-    out[4] = r.used;
-}
-
 // 1 with the reply written; 0 with nothing written where the room is not 20 bytes. The scratch is the door's own.
+#[tactic(auto, unfolding(crate::specs::Door::bytes_after))]
 pub fn check_query(image: &[u8], budget: u32, reply: &mut [u8]) -> u32
     ensures { (result ≡ returned (length reply.old) 20) × (reply.new ≡ bytes_after image.now budget reply.old) }
 {
@@ -101,6 +91,7 @@ pub fn check_query(image: &[u8], budget: u32, reply: &mut [u8]) -> u32
 }
 
 // The same over words, with scratch that the caller lends; 0 with nothing written where the room is not 5 words.
+#[tactic(auto, unfolding(crate::specs::Door::words_after, crate::specs::Door::lent_after))]
 pub fn check_query_lent(image: &[u32], budget: u32, scratch: &mut [u32], reply: &mut [u32]) -> u32
     ensures { (result ≡ returned (length reply.old) 5) × (reply.new ≡ words_after image.now budget (length scratch.old) reply.old) × (scratch.new ≡ lent_after image.now budget scratch.old (length reply.old)) }
 {
@@ -108,6 +99,6 @@ pub fn check_query_lent(image: &[u32], budget: u32, scratch: &mut [u32], reply: 
         return 0;
     }
     let answer = check(image, budget, scratch);
-    store_words(reply, answer);
+    reply.copy_from_slice(&words_of_reply(answer));
     1
 }

@@ -1,84 +1,62 @@
--- A law for each way out of the code that measures one selection or one set. Assumes nothing.
-use Prim.Native.Nat.{ℕ, zero, suc, ◌+◌, ◌-◌, ◌≤◌, ◌<◌, max}
+-- Laws of what is measured of one selection, of one set, and in a round. Assumes nothing.
+use Prim.Native.Nat.{ℕ, zero, suc, ◌+◌, ◌-◌, ◌<◌, max}
 use mathlib.Core.Path.{◌≡◌, refl, sym, ap, ◌∙◌}
-use mathlib.Core.Bool.{Bool, true, false, not, ◌||◌, beq}
+use mathlib.Core.Bool.{Bool, true, false, not, ◌&&◌, ◌||◌}
+use Rattle.std.specs.Prelude.{Option, Some, None, cond}
+use Rattle.std.proofs.Math.Bool.{and_assoc, or_assoc}
+use Rattle.fragment.specs.Order.{leads_lower, all_lower}
 use mathlib.Core.List.{List}
 use native.Mathlib.Numerals.{add-one}
 use native.Mathlib.Omega.{arith}
-use borrow.Author.Tests.{eq-eqb, ne_eqb}
 use lib.Dec.{eqb}
 use lib.ListN.{length, length-set}
 use Rattle.tables.specs.Layout.{NONE}
 use Rattle.tables.specs.Image.{row_in}
-use Rattle.tables.specs.Columns.{field, spread, selection_at, set_below, set_selections, is_empty_set, is_fragment_set}
+use Rattle.tables.specs.Columns.{field, spread, selection_at, set_below, set_or_none, set_selections, is_empty_set}
 use Rattle.tables.specs.declared.columns.Selection.{Selection}
 use Rattle.fragment.specs.declared.heights.Height.{Height}
-use Rattle.fragment.specs.Chains.{one_if, is_spread, is_nesting}
+use Rattle.fragment.specs.Chains.{one_if, is_spread, is_nesting, nests_in}
 use Rattle.fragment.specs.Heights.{cut_off, most_chain, most_links, most_nested, through, highest}
-use Rattle.fragment.specs.Rounds.{height_at, with_height, same_height, no_height, height_below, row_height, highest_of, set_height, measured, changes, sweep, sweep_changes}
+use Rattle.fragment.specs.Rounds.{same_height, no_height, height_below, height_of, row_height, highest_of, measured, changes, sweep, sweep_changes}
 
-beq_false : (b : Bool) → beq b false ≡ not b
-beq_false true = refl
-beq_false false = refl
+-- a set that a word names, or none
+height_named : (h : ℕ → Height) (t : ℕ) → height_of h (set_or_none t) ≡ height_below h t
+unfolding height_below
+height_named h t = go (eqb t NONE)
+  where
+    go : (b : Bool) → height_of h (cond b None (Some t)) ≡ record { chain = cond b 0 (h t).chain; links = cond b 0 (h t).links; nested = cond b 0 (h t).nested }
+    go true = refl
+    go false = refl
 
-module _ (a b : Height) where
-  pub chains_differ : (a.chain ≡ b.chain → ⊥) → false ≡ same_height a b
-  unfolding same_height
-  chains_differ h = rw (ne_eqb _ _ h)
-
-  pub links_differ : a.chain ≡ b.chain → (a.links ≡ b.links → ⊥) → false ≡ same_height a b
-  unfolding same_height
-  links_differ g h = rw (eq-eqb _ _ g, ne_eqb _ _ h)
-
-  pub nested_decides : a.chain ≡ b.chain → a.links ≡ b.links → eqb a.nested b.nested ≡ same_height a b
-  unfolding same_height
-  nested_decides g h = rw (eq-eqb _ _ g, eq-eqb _ _ h)
-
-module _ (n limit : ℕ) (short : n ≤ limit) {counts : Bool} where
-  pub counted : counts ≡ true → n + 1 ≡ cut_off limit (one_if counts + n)
-  counted e = rw e (omega arith)
-
-  pub not_counted : counts ≡ false → n ≡ cut_off limit (one_if counts + n)
-  not_counted e = rw e (omega arith)
-
-module _ (h : ℕ → Height) (t : ℕ) where
-  pub none_below : t ≡ NONE → no_height ≡ height_below h t
-  unfolding height_below
-  none_below e = rw (eq-eqb _ _ e)
-
-  pub some_below : (t ≡ NONE → ⊥) → h t ≡ height_below h t
-  unfolding height_below
-  some_below e = rw (ne_eqb _ _ e)
-
-module _ (image : List ℕ) (kind t : ℕ) where
-  pub no_field : (kind ≡ field → ⊥) → false ≡ is_nesting image kind t
-  unfolding is_nesting
-  no_field h = rw (ne_eqb _ _ h)
-
-  pub no_set : kind ≡ field → t ≡ NONE → false ≡ is_nesting image kind t
-  unfolding is_nesting
-  no_set g h = rw (eq-eqb _ _ g, eq-eqb _ _ h)
-
-  pub set_decides : kind ≡ field → (t ≡ NONE → ⊥) → {empty : Bool} → empty ≡ is_empty_set image t → beq empty false ≡ is_nesting image kind t
-  unfolding is_nesting
-  set_decides g h e = rw (eq-eqb _ _ g, ne_eqb _ _ h, e, beq_false)
+nests_named : (image : List ℕ) (kind t : ℕ) → nests_in image kind (set_or_none t) ≡ is_nesting image kind t
+unfolding is_nesting
+nests_named image kind t = go (eqb kind field) refl (eqb t NONE)
+  where
+    go : (a : Bool) → eqb kind field ≡ a → (b : Bool) → nests_in image kind (cond b None (Some t)) ≡ (a && not b && not (is_empty_set image t))
+    go true e true = refl
+    go false e true = refl
+    go true e false = rw e
+    go false e false = rw e
 
 -- the three numbers of a selection
-module _ (image : List ℕ) (h : ℕ → Height) (r : ℕ) {row : Selection} {t : ℕ} {below : Height} (read : row ≡ selection_at image r) (leads : t ≡ set_below image row) (under : below ≡ height_below h t) where
-  there : t ≡ set_below image (selection_at image r)
+module _ (image : List ℕ) (h : ℕ → Height) (r : ℕ) {row : Selection} {set : Option ℕ} {below : Height} (read : row ≡ selection_at image r) (leads : set ≡ set_or_none (set_below image row)) (under : below ≡ height_of h set) where
+  there : set ≡ set_or_none (set_below image (selection_at image r))
   there = rw (← read) leads
+
+  below_is : below ≡ height_below h (set_below image (selection_at image r))
+  below_is = rw (under, there) (height_named h _)
 
   pub chain_through : {n : ℕ} → n ≡ cut_off most_chain (one_if (eqb row.kind spread) + below.chain) → n ≡ (row_height image h r).chain
   unfolding through is_spread height_below
-  chain_through e = rw (e, under, read, there)
+  chain_through e = rw (e, below_is, read)
 
   pub links_through : {n : ℕ} → n ≡ cut_off most_links (one_if true + below.links) → n ≡ (row_height image h r).links
   unfolding through height_below
-  links_through e = rw (e, under, there)
+  links_through e = rw (e, below_is)
 
-  pub nested_through : {n : ℕ} {b : Bool} → b ≡ is_nesting image row.kind t → n ≡ cut_off most_nested (one_if b + below.nested) → n ≡ (row_height image h r).nested
+  pub nested_through : {n : ℕ} {b : Bool} → b ≡ nests_in image row.kind set → n ≡ cut_off most_nested (one_if b + below.nested) → n ≡ (row_height image h r).nested
   unfolding through height_below
-  nested_through f e = rw (e, f, under, read, there)
+  nested_through f e = rw (e, f, below_is, read, there, nests_named)
 
 pub all_three : {a b : Height} → a.chain ≡ b.chain → a.links ≡ b.links → a.nested ≡ b.nested → a ≡ b
 all_three {a} {b} p q r =
@@ -98,22 +76,10 @@ module _ (image : List ℕ) (h : ℕ → Height) (s n : ℕ) where
   unfolding highest
   one_passed {c = c} so_far row next (p, q, r) = rw add-one (all_three (rw (p, so_far, next, row)) (rw (q, so_far, next, row)) (rw (r, so_far, next, row)))
 
-  pub all_passed : {a : Height} → a ≡ highest_of image h s n → n ≡ (set_selections image s).count → a ≡ set_height image h s
-  all_passed so_far e = so_far ∙ ap (highest_of image h s) e
-
--- one set measured anew
-module _ (image s : List ℕ) (t : ℕ) {before after : Height} (was : before ≡ height_at s t) (is : after ≡ set_height image (height_at s) t) where
-  pub set_measured : {s' : List ℕ} → s' ≡ with_height s t after → s' ≡ measured image s t
-  unfolding measured
-  set_measured e = e ∙ ap (with_height s t) is
-
-  pub fragment_changes : is_fragment_set image t ≡ true → {same : Bool} → same ≡ same_height before after → beq same false ≡ changes image s t
-  unfolding changes
-  fragment_changes is_one e = rw (is_one, e, was, is, beq_false)
-
-  pub others_do_not : is_fragment_set image t ≡ false → false ≡ changes image s t
-  unfolding changes
-  others_do_not is_none = rw is_none
+-- the equality of heights, as derived
+pub same_by : (g h : Height) → (eqb g.chain h.chain && (eqb g.links h.links && eqb g.nested h.nested)) ≡ same_height g h
+unfolding same_height
+same_by g h = sym (and_assoc (eqb g.chain h.chain) _ _)
 
 pub same_words : (image s : List ℕ) (t : ℕ) → length (measured image s t) ≡ length s
 unfolding measured
@@ -126,26 +92,11 @@ module _ (image : List ℕ) where
   sweep_turn s zero some e = absurd (omega arith)
   sweep_turn s (suc n) some e = let p : suc n - 1 ≡ n = omega arith in rw (e, p)
 
-  any : (a : Bool) → (a || true) ≡ true
-  any true = refl
-  any false = refl
-
-  pub turn_changes : (s : List ℕ) (left : ℕ) (so_far : Bool) {b all : Bool} → 0 < left → b ≡ changes image s (left - 1) → b ≡ true → (so_far || sweep_changes image s left) ≡ all → true ≡ all
+  pub changes_turn : (s : List ℕ) (left : ℕ) (so_far : Bool) {s' : List ℕ} {b : Bool} → 0 < left → s' ≡ measured image s (left - 1) → b ≡ changes image s (left - 1)
+      → ((so_far || b) || sweep_changes image s' (left - 1)) ≡ (so_far || sweep_changes image s left)
   unfolding sweep_changes
-  turn_changes s zero so_far some e changed inv = absurd (omega arith)
-  turn_changes s (suc n) so_far some e changed inv =
-      let p : suc n - 1 ≡ n = omega arith in
-      let c : changes image s n ≡ true = ap (changes image s) (sym p) ∙ sym e ∙ changed in
-      sym (any so_far) ∙ rw c at inv
-
-  pub turn_leaves : (s : List ℕ) (left : ℕ) (so_far : Bool) {s' : List ℕ} {b all : Bool} → 0 < left → s' ≡ measured image s (left - 1) → b ≡ changes image s (left - 1) → b ≡ false → (so_far || sweep_changes image s left) ≡ all
-      → (so_far || sweep_changes image s' (left - 1)) ≡ all
-  unfolding sweep_changes
-  turn_leaves s zero so_far some here e kept inv = absurd (omega arith)
-  turn_leaves s (suc n) so_far some here e kept inv =
-      let p : suc n - 1 ≡ n = omega arith in
-      let c : changes image s n ≡ false = ap (changes image s) (sym p) ∙ sym e ∙ kept in
-      rw (here, p) (rw c at inv)
+  changes_turn s zero so_far some here e = absurd (omega arith)
+  changes_turn s (suc n) so_far some here e = let p : suc n - 1 ≡ n = omega arith in rw (here, e, p) (or_assoc so_far _ _)
 
   pub sweep_done : (s : List ℕ) (left : ℕ) → left ≡ 0 → sweep image s left ≡ s
   unfolding sweep
@@ -155,3 +106,8 @@ module _ (image : List ℕ) where
   unfolding sweep_changes
   changes_done s left true e = refl
   changes_done s left false e = rw e
+
+-- and whether all lead lower
+pub one_lower_more : (image s : List ℕ) (place t n : ℕ) {a b c : Bool} {r : ℕ} → a ≡ all_lower image s place t n → r ≡ row_in (set_selections image t) n → b ≡ leads_lower image s place r → c ≡ (a && b) → c ≡ all_lower image s place t (n + 1)
+unfolding all_lower
+one_lower_more image s place t n so_far row next e = rw (add-one, e, so_far, next, row)

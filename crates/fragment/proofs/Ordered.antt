@@ -1,24 +1,22 @@
 -- Sets that are measured in their turns: each comes after all that it leads to, so what is measured stands, and nothing leads back.
 -- Assumes nothing.
-use Prim.Native.Nat.{ℕ, zero, suc, ◌+◌, ◌*◌, ◌-◌, ◌<◌, ◌≤◌}
+use Prim.Native.Nat.{ℕ, zero, suc, ◌+◌, ◌*◌, ◌<◌, ◌≤◌}
 use mathlib.Core.Path.{◌≡◌, refl, sym, ap, subst, ◌∙◌}
 use mathlib.Core.Logic.{inl}
 use mathlib.Core.Bool.{Bool, true, false, cond, ◌&&◌}
 use mathlib.Core.List.{List}
 use native.Mathlib.Decide.{ℕ_discrete}
 use native.Mathlib.Nat.{le_refl}
-use native.Mathlib.Numerals.{add-one}
 use native.Mathlib.Omega.{arith}
-use borrow.Author.Tests.{eq-eqb, ne_eqb, eqb-true, lt-ltb, le-ltb, ltb-true}
+use borrow.Author.Tests.{eq-eqb, ne_eqb, eqb-true, ltb-true}
 use lib.Dec.{eqb, ltb}
-use lib.ListN.{length, get_or}
+use lib.ListN.{length}
 use Rattle.lists.specs.Part.{Outside}
 use Rattle.lists.proofs.Parts.{outside_trans}
 use Rattle.lists.proofs.Tests.{both, first_of, second_of, first_fails, second_fails}
 use Rattle.tables.specs.Layout.{NONE, sets}
 use Rattle.tables.specs.Image.{count_at, row_in}
-use Rattle.tables.specs.Columns.{set_selections, selection_at, set_below, fragment_set}
-use Rattle.tables.specs.declared.columns.Selection.{Selection}
+use Rattle.tables.specs.Columns.{set_selections, fragment_set}
 use Rattle.tables.specs.Good.{Good}
 use Rattle.reach.proofs.ReachMeaning.{stands_member}
 use Rattle.fragment.specs.declared.heights.Height.{Height}
@@ -57,55 +55,6 @@ module _ (image w s : List ℕ) (kept : Outside 0 (3 * count_at image sets) w s)
   unfolding all_in_turn
   turns_kept zero h = refl
   turns_kept (suc n) h = rw (turns_kept n (omega arith), set_kept (suc n) h, turn_kept (suc n) (set_of image w (suc n)))
-
--- ---- a law for each way out of the code
-
-module _ (image s : List ℕ) where
-  pub place_read : (t : ℕ) {n v : ℕ} → n ≡ count_at image sets → v ≡ get_or s (3 * n + t) 0 → v ≡ place_of image s t
-  unfolding place_of
-  place_read t size e = rw (← size) e
-
-  pub set_read : (place : ℕ) {n v : ℕ} → n ≡ count_at image sets → v ≡ get_or s (5 * n - place) 0 → v ≡ set_of image s place
-  unfolding set_of
-  set_read place size e = rw (← size) e
-
-  module _ (place r : ℕ) {row : Selection} {t : ℕ} (read : row ≡ selection_at image r) (leads : t ≡ set_below image row) where
-    there : t ≡ below image r
-    there = leads ∙ ap (set_below image) read
-
-    pub nowhere_lower : t ≡ NONE → true ≡ leads_lower image s place r
-    unfolding leads_lower
-    nowhere_lower e = rw (← there, eq-eqb _ _ e)
-
-    pub place_decides : (t ≡ NONE → ⊥) → {p : ℕ} → p ≡ place_of image s t → ltb p place ≡ leads_lower image s place r
-    unfolding leads_lower
-    place_decides ne e = rw (← there, ne_eqb _ _ ne, e)
-
-  module _ (place t n : ℕ) where
-    pub none_lower : true ≡ all_lower image s place t 0
-    unfolding all_lower
-    none_lower = refl
-
-    pub one_lower_more : {a b c : Bool} {r : ℕ} → a ≡ all_lower image s place t n → r ≡ row_in (set_selections image t) n → b ≡ leads_lower image s place r → c ≡ (a && b) → c ≡ all_lower image s place t (n + 1)
-    unfolding all_lower
-    one_lower_more so_far row next e = rw (add-one, e, so_far, next, row)
-
-    pub all_lower_passed : {a : Bool} → a ≡ all_lower image s place t n → n ≡ (set_selections image t).count → a ≡ all_lower image s place t (set_selections image t).count
-    all_lower_passed so_far e = so_far ∙ ap (all_lower image s place t) e
-
-  module _ (place t : ℕ) {n : ℕ} (size : n ≡ count_at image sets) where
-    pub no_set_in_turn : n ≤ t → false ≡ is_in_turn image s place t
-    unfolding is_in_turn
-    no_set_in_turn past = rw (le-ltb t (count_at image sets) (omega arith))
-
-    module _ (known : t < n) {p : ℕ} (at : p ≡ place_of image s t) where
-      pub other_in_turn : (p ≡ place → ⊥) → false ≡ is_in_turn image s place t
-      unfolding is_in_turn
-      other_in_turn ne = rw (lt-ltb t (count_at image sets) (omega arith), ← at, ne_eqb _ _ ne)
-
-      pub lower_decides : p ≡ place → {b : Bool} → b ≡ all_lower image s place t (set_selections image t).count → b ≡ is_in_turn image s place t
-      unfolding is_in_turn
-      lower_decides e f = rw (lt-ltb t (count_at image sets) (omega arith), ← at, eq-eqb _ _ e) f
 
 -- ---- a set in its turn
 
@@ -245,7 +194,7 @@ module _ {image : List ℕ} (good : Good image) {w s : List ℕ} {k : ℕ} (room
   }
 
 -- a turn of the code
-module _ (image : List ℕ) {w s s' : List ℕ} {k n : ℕ} (t : ℕ) (size : n ≡ count_at image sets) (inside : k < n) (kept : Outside 0 (3 * count_at image sets) w s) (e : s' ≡ in_turn image s (k + 1) t) where
+module _ (image : List ℕ) {w s s' : List ℕ} {k : ℕ} (t : ℕ) (inside : k < count_at image sets) (kept : Outside 0 (3 * count_at image sets) w s) (e : s' ≡ in_turn image s (k + 1) t) where
   pub turn_outside : Outside 0 (3 * count_at image sets) w s'
   turn_outside = go (is_in_turn image s (k + 1) t) refl
     where
@@ -254,27 +203,27 @@ module _ (image : List ℕ) {w s s' : List ℕ} {k n : ℕ} (t : ℕ) (size : n 
       go false turn = rw (e, turn_missed image s (k + 1) t turn) kept
 
   -- whether this turn goes well, by the words at the beginning
-  turn_said : {b : Bool} → t ≡ get_or s (5 * n - (k + 1)) 0 → b ≡ is_in_turn image s (k + 1) t → is_in_turn image w (suc k) (set_of image w (suc k)) ≡ b
+  turn_said : {b : Bool} → t ≡ set_of image s (k + 1) → b ≡ is_in_turn image s (k + 1) t → is_in_turn image w (suc k) (set_of image w (suc k)) ≡ b
   turn_said read said =
       let next : k + 1 ≡ suc k = omega arith in
-      let here : t ≡ set_of image w (k + 1) = set_read image s (k + 1) size read ∙ set_kept image w s kept (k + 1) (omega arith) in
+      let here : t ≡ set_of image w (k + 1) = read ∙ set_kept image w s kept (k + 1) (omega arith) in
       rw (← next, ← here) (sym (turn_kept image w s kept (k + 1) t) ∙ sym said)
 
-  pub turn_passes : {b : Bool} → t ≡ get_or s (5 * n - (k + 1)) 0 → b ≡ is_in_turn image s (k + 1) t → b ≡ true → all_in_turn image w k ≡ true → all_in_turn image w (k + 1) ≡ true
+  pub turn_passes : {b : Bool} → t ≡ set_of image s (k + 1) → b ≡ is_in_turn image s (k + 1) t → b ≡ true → all_in_turn image w k ≡ true → all_in_turn image w (k + 1) ≡ true
   turn_passes read said well before =
       let next : k + 1 ≡ suc k = omega arith in
       rw next (turn_more image w k before (turn_said read said ∙ well))
 
-  pub turn_fails : {b : Bool} → t ≡ get_or s (5 * n - (k + 1)) 0 → b ≡ is_in_turn image s (k + 1) t → b ≡ false → all_in_turn image w (count_at image sets) ≡ false
+  pub turn_fails : {b : Bool} → t ≡ set_of image s (k + 1) → b ≡ is_in_turn image s (k + 1) t → b ≡ false → all_in_turn image w (count_at image sets) ≡ false
   turn_fails read said ill = one_fails image w k (count_at image sets) (omega arith) (turn_said read said ∙ ill)
 
-  pub turn_again : {b : Bool} → t ≡ get_or s (5 * n - (k + 1)) 0 → b ≡ is_in_turn image s (k + 1) t → b ≡ true
+  pub turn_again : {b : Bool} → t ≡ set_of image s (k + 1) → b ≡ is_in_turn image s (k + 1) t → b ≡ true
       → (Good image → 5 * count_at image sets ≤ length w → SoundHeights image w → Turned image w s k)
       → Good image → 5 * count_at image sets ≤ length w → SoundHeights image w → Turned image w s' (k + 1)
   turn_again read said well turned good room sound =
       let turn : is_in_turn image s (k + 1) t ≡ true = sym said ∙ well in
       let next : k + 1 ≡ suc k = omega arith in
-      let here : t ≡ set_of image w (k + 1) = set_read image s (k + 1) size read ∙ set_kept image w s kept (k + 1) (omega arith) in
+      let here : t ≡ set_of image w (k + 1) = read ∙ set_kept image w s kept (k + 1) (omega arith) in
       let turn' : is_in_turn image s (suc k) (set_of image w (suc k)) ≡ true = rw (← next, ← here) turn in
       let all : s' ≡ measured image s (set_of image w (suc k)) = rw (← next, ← here) (e ∙ turn_taken image s (k + 1) t turn) in
       rw (next, all) (one_turned good (omega arith) (omega arith) kept (turned good room sound) turn')

@@ -1,17 +1,16 @@
 -- The highest rise: no link leads past it but down, and a fragment above it does not reach itself. Assumes nothing.
-use Prim.Native.Nat.{ℕ, zero, suc, ◌+◌, ◌<◌, ◌≤◌, max}
+use Prim.Native.Nat.{ℕ, zero, suc, ◌+◌, ◌*◌, ◌<◌, ◌≤◌, max}
 use mathlib.Core.Path.{◌≡◌, refl, sym, ap, ◌∙◌}
 use mathlib.Core.Logic.{inl, inr}
 use mathlib.Core.List.{List}
 use native.Mathlib.Decide.{dec_le, ℕ_discrete}
 use native.Mathlib.Numerals.{add-one}
 use native.Mathlib.Omega.{arith}
-use borrow.Author.Tests.{eq-eqb, ne_eqb, lt-ltb, le-ltb}
+use borrow.Author.Tests.{ne_eqb, le-ltb}
 use lib.ListN.{get_or}
 use Rattle.tables.specs.Layout.{NONE, sets}
 use Rattle.tables.specs.Image.{count_at, row_in}
-use Rattle.tables.specs.Columns.{set_selections, selection_at, set_below}
-use Rattle.tables.specs.declared.columns.Selection.{Selection}
+use Rattle.tables.specs.Columns.{set_selections}
 use Rattle.tables.specs.Good.{Good}
 use Rattle.reach.proofs.ReachMeaning.{stands_member}
 use Rattle.fragment.specs.Chains.{below}
@@ -20,28 +19,12 @@ use Rattle.fragment.specs.Walks.{HeightsKept}
 use Rattle.fragment.proofs.ChainLaws.{link_in}
 
 module _ (image s : List ℕ) where
-  -- ---- a law for each way out of the code
-
-  pub place_found : (t : ℕ) {n v : ℕ} → n ≡ count_at image sets → v ≡ get_or s (n + t) 0 → v ≡ place_at image s t
+  -- an order that stands behind one word for each set
+  pub front_place : (t : ℕ) {p : ℕ} → p ≡ get_or s (1 * count_at image sets + t) 0 → p ≡ place_at image s t
   unfolding place_at
-  place_found t size e = rw (← size) e
+  front_place t e = e ∙ ap (λ (k : ℕ). get_or s k 0) (omega arith)
 
-  module _ (place r : ℕ) {row : Selection} {t : ℕ} (read : row ≡ selection_at image r) (leads : t ≡ set_below image row) where
-    there : t ≡ below image r
-    there = leads ∙ ap (set_below image) read
-
-    pub nowhere_rises : t ≡ NONE → 0 ≡ rise_of image s place r
-    unfolding rise_of
-    nowhere_rises e = rw (← there, eq-eqb _ _ e)
-
-    module _ (some : t ≡ NONE → ⊥) {p : ℕ} (at : p ≡ place_at image s t) where
-      pub falls_none : p < place → 0 ≡ rise_of image s place r
-      unfolding rise_of
-      falls_none l = rw (← there, ne_eqb _ _ some, ← at, lt-ltb _ _ l)
-
-      pub rises_there : place ≤ p → p ≡ rise_of image s place r
-      unfolding rise_of
-      rises_there l = rw (← there, ne_eqb _ _ some, ← at, le-ltb _ _ l)
+  -- ---- the loops
 
   pub none_risen : (t : ℕ) → 0 ≡ rise_in image s t 0
   unfolding rise_in
@@ -50,9 +33,6 @@ module _ (image s : List ℕ) where
   pub one_risen : (t n : ℕ) {a b c r p : ℕ} → a ≡ rise_in image s t n → p ≡ place_at image s t → r ≡ row_in (set_selections image t) n → b ≡ rise_of image s p r → c ≡ max a b → c ≡ rise_in image s t (n + 1)
   unfolding rise_in
   one_risen t n so_far place row next e = rw (add-one, e, so_far, next, place, row)
-
-  pub all_risen : (t n : ℕ) {a : ℕ} → a ≡ rise_in image s t n → n ≡ (set_selections image t).count → a ≡ rise_in image s t (set_selections image t).count
-  all_risen t n so_far e = so_far ∙ ap (rise_in image s t) e
 
   pub no_set_risen : 0 ≡ highest_rise image s 0
   unfolding highest_rise
@@ -63,6 +43,10 @@ module _ (image s : List ℕ) where
   one_set_risen n so_far next e = rw (add-one, e, so_far, next)
 
   -- ---- what it says
+
+  rises_there : (place r : ℕ) → (below image r ≡ NONE → ⊥) → place ≤ place_at image s (below image r) → place_at image s (below image r) ≡ rise_of image s place r
+  unfolding rise_of
+  rises_there place r some l = rw (ne_eqb _ _ some, le-ltb _ _ l)
 
   row_counted : (t k n : ℕ) → k < n → rise_of image s (place_at image s t) (row_in (set_selections image t) k) ≤ rise_in image s t n
   unfolding rise_in
@@ -91,7 +75,7 @@ module _ (image s : List ℕ) where
       let here : place_at image s (below image r) ≡ place_at image s u = ap (place_at image s) l.leads in
       elim (dec_le (place_at image s t) (place_at image s u)) [
         | no less ↦ inl (omega arith)
-        | yes up ↦ inr (let c = rises_there (place_at image s t) r refl refl some refl (omega arith) in omega arith)
+        | yes up ↦ inr (let c = rises_there (place_at image s t) r some (omega arith) in omega arith)
       ]
 
 -- walks change no places

@@ -1,6 +1,6 @@
 -- Chains of links: the ways down from a set, selection by selection, and what is counted along them (kinds 6 to 8).
 -- Relations over the rows of an image, without fuel. Assumes nothing.
-use Rattle.std.specs.Prelude.{ℕ, ◌+◌, ◌≤◌, ◌≡◌, Bool, true, cond, not, ◌&&◌, List, [], ◌∷◌, eqb}
+use Rattle.std.specs.Prelude.{ℕ, ◌+◌, ◌≤◌, ◌≡◌, Bool, true, cond, not, ◌&&◌, List, [], ◌∷◌, eqb, Option, Some, None, false}
 use Rattle.tables.specs.Layout.{NONE}
 use Rattle.tables.specs.Columns.{field, spread, selection_kind, selection_at, set_below, is_empty_set}
 use Rattle.tables.specs.Good.{StandsIn}
@@ -40,6 +40,11 @@ is_link r = true
 -- kind 8 counts fields with a non-empty set
 unfoldable pub is_nesting : List ℕ → (kind t : ℕ) → Bool
 is_nesting image kind t = eqb kind field && not (eqb t NONE) && not (is_empty_set image t)
+
+-- the same, where the set is there or not
+abbrev pub nests_in : List ℕ → (kind : ℕ) → Option ℕ → Bool
+nests_in image kind (Some t) = eqb kind field && not (is_empty_set image t)
+nests_in image kind None = false
 
 abbrev pub nests : List ℕ → ℕ → Bool
 nests image r = is_nesting image (selection_kind image r) (below image r)

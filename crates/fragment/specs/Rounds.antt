@@ -1,6 +1,6 @@
 -- The heights in lent words, three for each set, and the rounds that find them: each measures all sets anew, highest first.
 -- Assumes nothing.
-use Rattle.std.specs.Prelude.{ℕ, zero, suc, ◌+◌, ◌*◌, ◌<◌, ◌≤◌, ◌≡◌, Bool, false, cond, not, ◌&&◌, ◌||◌, List, eqb, get_or, set}
+use Rattle.std.specs.Prelude.{ℕ, zero, suc, ◌+◌, ◌*◌, ◌<◌, ◌≤◌, ◌≡◌, Bool, false, cond, not, ◌&&◌, ◌||◌, List, eqb, get_or, set, Option, Some, None}
 use Rattle.tables.specs.Layout.{NONE, fragments, sets}
 use Rattle.tables.specs.Image.{count_at}
 use Rattle.tables.specs.Columns.{set_selections, is_fragment_set, fragment_set}
@@ -24,6 +24,11 @@ no_height = record { chain = 0; links = 0; nested = 0 }
 unfoldable pub height_below : (ℕ → Height) → ℕ → Height
 height_below h t =
     record { chain = cond (eqb t NONE) 0 (h t).chain; links = cond (eqb t NONE) 0 (h t).links; nested = cond (eqb t NONE) 0 (h t).nested }
+
+-- the same, where the set is there or not
+abbrev pub height_of : (ℕ → Height) → Option ℕ → Height
+height_of h (Some t) = h t
+height_of h None = no_height
 
 module _ (image : List ℕ) (h : ℕ → Height) where
   -- under the three weights at once

@@ -1,7 +1,7 @@
 -- Kinds 5 to 9 as executable definitions: whether a fragment or an operation breaks a rule, the lowest that does, and the kinds in their
 -- order (the table of kinds in README). What they mean is in specs/Meaning.
 -- Assumes nothing.
-use Rattle.std.specs.Prelude.{ℕ, ◌*◌, min, Bool, not, List, eqb, leb, ltb, length, get_or, replicate}
+use Rattle.std.specs.Prelude.{ℕ, ◌*◌, min, Bool, not, List, eqb, leb, ltb, length, get_or, replicate, Result, Ok, Err}
 use Rattle.std.proofs.Math.Option.{Option, none, some}
 use Rattle.lists.specs.Every.{position}
 use Rattle.lists.specs.First.{expect, ◌▷◌}
@@ -11,8 +11,8 @@ use Rattle.tables.specs.Image.{count_at}
 use Rattle.tables.specs.Columns.{fragment_set}
 use Rattle.tables.specs.declared.Range.{Range}
 use Rattle.reach.specs.Reach.{reached_from, led}
-use Rattle.fragment.specs.declared.rules.Fragments.{Fragments}
-use Rattle.fragment.specs.declared.rules.Fragments.TheVariants.{Good, Wrong}
+use Rattle.fragment.specs.declared.rules.FragmentError.{FragmentError}
+use Rattle.fragment.specs.declared.rules.FragmentError.TheVariants.{Cycle, LongChain, ManyLinks, DeepNesting, Unused}
 use Rattle.fragment.specs.Heights.{most_chain, most_links, most_nested, spreads_from, links_from, nested_from}
 
 -- what a reply shows: its kind, its operation and its number a
@@ -25,9 +25,16 @@ abbrev pub refusal : (kind operation a : ℕ) → Refusal
 refusal kind operation a = record { kind = kind; operation = operation; a = a }
 
 -- the answer of the rules, by its number
-abbrev pub fragments_show : Fragments → Option Refusal
-fragments_show Good = none
-fragments_show (Wrong kind operation a) = some (refusal kind operation a)
+abbrev pub error_shows : FragmentError → Refusal
+error_shows (Cycle f) = refusal 5 0 f
+error_shows (LongChain f) = refusal 6 0 f
+error_shows (ManyLinks i) = refusal 7 i 0
+error_shows (DeepNesting i) = refusal 8 i 0
+error_shows (Unused f) = refusal 9 0 f
+
+abbrev pub fragments_show : Result (Unit {0}) FragmentError → Option Refusal
+fragments_show (Ok _) = none
+fragments_show (Err e) = some (error_shows e)
 
 -- the lowest of n rows that fails
 unfoldable pub lowest : ℕ → (ℕ → Bool) → (ℕ → Refusal) → Option Refusal

@@ -1,23 +1,24 @@
 // The longest ways down from each set, under three weights at once, each cut off one past its limit: spreads (kind 6), links (7)
 // and non-empty field sets (8). The lent words hold three numbers for each set. They are found in one pass where the words behind them
 // hold an order in which no set leads to a later one; else by rounds over all sets, highest first, until a round changes no fragment's.
-ghost use Rattle.std.specs.Prelude.{◌≡◌, true, ◌&&◌, ℕ, ◌+◌, ◌*◌, ◌≤◌, ◌<◌, max, length};
+ghost use Rattle.std.specs.Prelude.{◌≡◌, true, ℕ, ◌+◌, ◌*◌, ◌≤◌, ◌<◌, ◌&&◌, max, length};
 ghost use Rattle.lists.specs.Part.{Outside};
 ghost use Rattle.tables.specs.Layout.{sets};
 ghost use Rattle.tables.specs.Image.{count_at};
 ghost use Rattle.tables.specs.Columns.{set_selections};
 ghost use Rattle.tables.specs.Good.{Good};
-ghost use Rattle.fragment.specs.Chains.{one_if, is_nesting};
+ghost use Rattle.fragment.specs.Chains.{one_if, nests_in};
 ghost use Rattle.fragment.specs.Heights.{cut_off};
-ghost use Rattle.fragment.specs.Rounds.{height_at, with_height, same_height, height_below, row_height, set_height, measured, changes, sweep, sweep_changes, Measured};
-ghost use Rattle.fragment.specs.Order.{place_of, leads_lower, all_lower, is_in_turn, all_in_turn, in_turn};
+ghost use Rattle.fragment.specs.Rounds.{height_at, with_height, height_of, row_height, set_height, measured, changes, sweep, sweep_changes, Measured, SoundHeights};
+ghost use Rattle.fragment.specs.Order.{leads_lower, all_lower, is_in_turn, all_in_turn, in_turn};
 ghost use Rattle.fragment.specs.Walks.{InOrder};
 
-use lists::{clear, get, most, put};
+use crate::order::{HEIGHTS, place_behind, set_of, words_of};
+use lists::{clear, get, put};
 use tables::columns::{
-    FIELD, SPREAD, is_empty_set, is_fragment_set, selection_row, set_below, set_selections,
+    SelectionKind, is_empty_set, is_fragment_set, selection_row, set_below, set_selections,
 };
-use tables::{NONE, SETS, count, row_in};
+use tables::{SETS, count};
 
 pub const MOST_CHAIN: u32 = 100;
 
@@ -25,17 +26,49 @@ pub const MOST_LINKS: u32 = 500;
 
 pub const MOST_NESTED: u32 = 128;
 
-#[derive(Clone, Copy)]
+// The greatest numbers of spreads, links and nested field sets on the ways down from a set.
+#[derive(Clone, Copy, PartialEq, Eq, Default)]
 pub struct Height {
     pub chain: u32,
     pub links: u32,
     pub nested: u32,
 }
 
+impl Height {
+    // The greater of each number.
+    fn higher(self, other: Height) -> Height
+        ensures chain { result.chain ≡ max self.chain other.chain }
+        ensures links { result.links ≡ max self.links other.links }
+        ensures nested { result.nested ≡ max self.nested other.nested }
+    {
+        Height {
+            chain: self.chain.max(other.chain),
+            links: self.links.max(other.links),
+            nested: self.nested.max(other.nested),
+        }
+    }
+}
+
+// What selections say of a set's place and height: the highest way down through one of them, and whether all lead to lower places.
 #[derive(Clone, Copy)]
 struct Way {
     height: Height,
     lower: bool,
+}
+
+impl Way {
+    // What both ways say together.
+    fn joined(self, other: Way) -> Way
+        ensures chain { result.height.chain ≡ max self.height.chain other.height.chain }
+        ensures links { result.height.links ≡ max self.height.links other.height.links }
+        ensures nested { result.height.nested ≡ max self.height.nested other.height.nested }
+        ensures lower { result.lower ≡ (self.lower && other.lower) }
+    {
+        Way {
+            height: self.height.higher(other.height),
+            lower: self.lower && other.lower,
+        }
+    }
 }
 
 // The three numbers of a set.
@@ -43,13 +76,10 @@ pub fn height_at(s: &[u32], set: u32) -> Height
     ensures { result ≡ height_at s.now set }
 {
     let at = 3 * (set as usize);
-    let chain = get(s, at);
-    let links = get(s, at + 1);
-    let nested = get(s, at + 2);
     Height {
-        chain,
-        links,
-        nested,
+        chain: get(s, at),
+        links: get(s, at + 1),
+        nested: get(s, at + 2),
     }
 }
 
@@ -62,145 +92,76 @@ fn store_height(s: &mut [u32], set: u32, h: Height)
     put(s, at + 2, h.nested);
 }
 
-fn is_same(a: Height, b: Height) -> bool
-    ensures { result ≡ same_height a b }
-{
-    if a.chain == b.chain {
-        if a.links == b.links {
-            return a.nested == b.nested;
-        }
-    }
-    false
-}
-
-fn higher(a: Height, b: Height) -> Height
-    ensures { (result.chain ≡ max a.chain b.chain) × (result.links ≡ max a.links b.links) × (result.nested ≡ max a.nested b.nested) }
-{
-    let chain = most(a.chain, b.chain);
-    let links = most(a.links, b.links);
-    let nested = most(a.nested, b.nested);
-    Height {
-        chain,
-        links,
-        nested,
-    }
-}
-
 // One more where it counts, but at most one past the limit.
 fn one_more(n: u32, counts: bool, limit: u32) -> u32
     requires { limit < 1000 }
     ensures { result ≡ cut_off limit (one_if counts + n) }
 {
-    if limit < n {
-        return limit + 1;
-    }
-    if counts { n + 1 } else { n }
+    n.saturating_add(u32::from(counts)).min(limit + 1)
 }
 
 // The height of a set below; 0 of none.
-fn height_below(s: &[u32], set: u32) -> Height
-    ensures { result ≡ height_below (height_at s.now) set }
+fn height_below(s: &[u32], set: Option<u32>) -> Height
+    ensures { result ≡ height_of (height_at s.now) set }
 {
-    if set == NONE {
-        return Height {
-            chain: 0,
-            links: 0,
-            nested: 0,
-        };
+    match set {
+        Some(set) => height_at(s, set),
+        None => Height::default(),
     }
-    height_at(s, set)
 }
 
 // Whether a selection of this kind is a field with a non-empty set.
-fn is_nesting(image: &[u32], kind: u32, set: u32) -> bool
-    ensures { result ≡ is_nesting image.now kind set }
+fn is_nesting(image: &[u32], kind: u32, set: Option<u32>) -> bool
+    ensures { result ≡ nests_in image.now kind set }
 {
-    if kind != FIELD {
-        return false;
-    }
-    if set == NONE {
-        return false;
-    }
-    is_empty_set(image, set) == false
+    kind == SelectionKind::Field as u32 && set.is_some_and(|set| !is_empty_set(image, set))
 }
 
-// The way down through a selection.
-fn height_of_selection(image: &[u32], s: &[u32], row: u32) -> Height
-    ensures { result ≡ row_height image.now (height_at s.now) row }
+// The way down through a selection of a set of this place. The selection is read once for both answers.
+#[tactic(auto, unfolding(crate::specs::Order::leads_lower, crate::specs::Order::place_of))]
+fn way_through(image: &[u32], s: &[u32], place: u32, row: u32) -> Way
+    ensures height { result.height ≡ row_height image.now (height_at s.now) row }
+    ensures lower { result.lower ≡ leads_lower image.now s.now place row }
 {
     let selection = selection_row(image, row);
     let set = set_below(image, selection);
     let below = height_below(s, set);
+    let is_spread = selection.kind == SelectionKind::Spread as u32;
     let is_nested = is_nesting(image, selection.kind, set);
-    let chain = one_more(below.chain, selection.kind == SPREAD, MOST_CHAIN);
-    let links = one_more(below.links, true, MOST_LINKS);
-    let nested = one_more(below.nested, is_nested, MOST_NESTED);
-    Height {
-        chain,
-        links,
-        nested,
-    }
-}
-
-// The place of a set in the order behind the heights.
-fn place_of(image: &[u32], s: &[u32], set: u32) -> u32
-    ensures { result ≡ place_of image.now s.now set }
-{
-    get(s, 3 * (count(image, SETS) as usize) + (set as usize))
-}
-
-// Whether a selection leads nowhere, or to a set of a lower place.
-fn leads_lower(image: &[u32], s: &[u32], place: u32, row: u32) -> bool
-    ensures { result ≡ leads_lower image.now s.now place row }
-{
-    let set = set_below(image, selection_row(image, row));
-    if set == NONE {
-        return true;
-    }
-    place_of(image, s, set) < place
-}
-
-fn and(a: bool, b: bool) -> bool
-    ensures { result ≡ (a && b) }
-{
-    if a { b } else { false }
-}
-
-// The height of a set by those of the sets below it, the highest way down through one of its selections; and whether all of these lead
-// to lower places than this one.
-fn way_down(image: &[u32], s: &[u32], place: u32, set: u32) -> Way
-    ensures { (result.height ≡ set_height image.now (height_at s.now) set) × (result.lower ≡ all_lower image.now s.now place set (set_selections image.now set).count) }
-{
-    let rows = set_selections(image, set);
-    let rows_count = rows.count;
-    let mut height = Height {
-        chain: 0,
-        links: 0,
-        nested: 0,
+    let height = Height {
+        chain: one_more(below.chain, is_spread, MOST_CHAIN),
+        links: one_more(below.links, true, MOST_LINKS),
+        nested: one_more(below.nested, is_nested, MOST_NESTED),
     };
-    let mut lower = true;
-    let mut i: u32 = 0;
-    while i < rows_count {
-        let row = row_in(rows, i);
-        height = higher(height, height_of_selection(image, s, row));
-        lower = and(lower, leads_lower(image, s, place, row));
-        i += 1;
-    }
+    let lower = set.is_none_or(|set| place_behind(image, s, HEIGHTS, set) < place);
     Way { height, lower }
 }
 
-// One set is measured anew. Whether that changed a fragment's set.
+// The way down from a set of this place, by the heights of the sets below it.
+fn way_down(image: &[u32], s: &[u32], place: u32, set: u32) -> Way
+    ensures height { result.height ≡ set_height image.now (height_at s.now) set }
+    ensures lower { result.lower ≡ all_lower image.now s.now place set (set_selections image.now set).count }
+{
+    let rows = set_selections(image, set);
+    let mut way = Way {
+        height: Height::default(),
+        lower: true,
+    };
+    for i in 0..rows.count {
+        way = way.joined(way_through(image, s, place, rows.row(i)));
+    }
+    way
+}
+
+// One set is measured anew, whatever its place. Whether that changed a fragment's set.
+#[tactic(auto, using(crate::proofs::HeightLaws::same_by), unfolding(crate::specs::Rounds::measured, crate::specs::Rounds::changes))]
 fn measure_set(image: &[u32], s: &mut [u32], set: u32) -> bool
     ensures { (s.new ≡ measured image.now s.old set) × (result ≡ changes image.now s.old set) }
 {
     let before = height_at(&s[..], set);
-    let way = way_down(image, &s[..], 0, set);
-    let after = way.height;
+    let after = way_down(image, &s[..], 0, set).height;
     store_height(s, set, after);
-    if is_fragment_set(image, set) {
-        return is_same(before, after) == false;
-    }
-    false
+    is_fragment_set(image, set) && before != after
 }
 
 // All sets, highest first, so that the sets of a set's own selections come before it. Whether that changed a fragment's: if not,
@@ -209,48 +170,43 @@ fn measure_round(image: &[u32], s: &mut [u32]) -> bool
     ensures { (s.new ≡ sweep image.now s.old (count_at image.now sets)) × (result ≡ sweep_changes image.now s.old (count_at image.now sets)) }
 {
     let mut changed = false;
-    let mut left = count(image, SETS);
-    while 0 < left {
-        left -= 1;
-        if measure_set(image, s, left) {
-            changed = true;
-        }
+    for set in (0..count(image, SETS)).rev() {
+        changed |= measure_set(image, s, set);
     }
     changed
 }
 
 // A set is measured in its turn, if it has this place and leads to lower ones alone. Whether it is so.
+#[tactic(auto, unfolding(crate::specs::Order::is_in_turn, crate::specs::Order::in_turn, crate::specs::Order::place_of, crate::specs::Rounds::measured))]
 fn measure_in_turn(image: &[u32], s: &mut [u32], place: u32, set: u32) -> bool
     ensures { (s.new ≡ in_turn image.now s.old place set) × (result ≡ is_in_turn image.now s.old place set) }
 {
-    if count(image, SETS) <= set {
-        return false;
-    }
-    if place_of(image, &s[..], set) != place {
+    if count(image, SETS) <= set || place_behind(image, &s[..], HEIGHTS, set) != place {
         return false;
     }
     let way = way_down(image, &s[..], place, set);
     if way.lower {
-        let height = way.height;
-        store_height(s, set, height);
-        return true;
+        store_height(s, set, way.height);
     }
-    false
+    way.lower
+}
+
+// All heights become 0.
+fn clear_heights(image: &[u32], s: &mut [u32])
+    ensures { Outside 0 (3 * count_at image.now sets) s.old s.new × (3 * count_at image.now sets ≤ length s.old → SoundHeights image.now s.new) }
+{
+    clear(s, 0, words_of(image, HEIGHTS));
 }
 
 // All sets, each in its turn. Whether that went well: then all is settled, and no fragment reaches itself.
 pub fn measure_in_order(image: &[u32], s: &mut [u32]) -> bool
     ensures { Outside 0 (3 * count_at image.now sets) s.old s.new × (result ≡ all_in_turn image.now s.old (count_at image.now sets)) × (result ≡ true → Good image.now → 5 * count_at image.now sets ≤ length s.old → InOrder image.now s.new) }
 {
-    let known = count(image, SETS);
-    clear(s, 0, 3 * (known as usize));
-    let mut placed: u32 = 0;
-    while placed < known {
+    clear_heights(image, s);
+    for placed in 0..count(image, SETS) {
         let place = placed + 1;
-        let set = get(&s[..], 5 * (known as usize) - (place as usize));
-        if measure_in_turn(image, s, place, set) {
-            placed = place;
-        } else {
+        let set = set_of(image, &s[..], place);
+        if !measure_in_turn(image, s, place, set) {
             return false;
         }
     }
@@ -261,13 +217,10 @@ pub fn measure_in_order(image: &[u32], s: &mut [u32]) -> bool
 pub fn measure_sets(image: &[u32], s: &mut [u32])
     ensures { Outside 0 (3 * count_at image.now sets) s.old s.new × (Good image.now → 3 * count_at image.now sets ≤ length s.old → (t : ℕ) → t < count_at image.now sets → Measured image.now s.new t) }
 {
-    clear(s, 0, 3 * (count(image, SETS) as usize));
-    let mut rounds = MOST_CHAIN + 2;
-    while 0 < rounds {
-        if measure_round(image, s) {
-            rounds -= 1;
-        } else {
-            rounds = 0;
+    clear_heights(image, s);
+    for _ in 0..MOST_CHAIN + 2 {
+        if !measure_round(image, s) {
+            return;
         }
     }
 }

@@ -1,119 +1,145 @@
 // An order of the sets: where there is no cycle, the sets that a set's selections lead to come before it. Nothing is promised of it:
 // `heights` looks before it believes. The lent words: a place for each set, from 1, and then the sets, the first placed last.
+ghost use Rattle.std.specs.Prelude.{◌≡◌, ◌+◌, ◌*◌, ◌<◌, ◌^◌, get_or};
+ghost use Rattle.lists.specs.Part.{Outside};
+ghost use Rattle.tables.specs.Layout.{sets};
+ghost use Rattle.tables.specs.Image.{count_at};
+ghost use Rattle.fragment.specs.Order.{set_of};
+
 use lists::{clear, get, put};
 use tables::columns::{selection_row, set_below, set_selections};
-use tables::{NONE, SETS, count, row_in};
+use tables::{NONE, SETS, count};
 
-// A set that was not met before, or NONE, and the selection to look on from.
+// Words for each set: of the heights, of an order or a walk behind them, and of both. Where no heights stand, an order stands behind one.
+pub const HEIGHTS: u8 = 3;
+
+pub const ORDER: u8 = 2;
+
+pub const LENT: u8 = 5;
+
+pub const FRONT: u8 = 1;
+
+// A set that was not met before, and the selection to look on from.
 #[derive(Clone, Copy)]
 struct Unmet {
     set: u32,
     next: u32,
 }
 
+// So many words for each set.
+pub fn words_of(image: &[u32], each: u8) -> usize
+    ensures { (result ≡ each * count_at image.now sets) × (result < 2 ^ 40) }
+{
+    (each as usize) * (count(image, SETS) as usize)
+}
+
+// The place of a set in an order that stands behind so many words for each set.
+pub fn place_behind(image: &[u32], s: &[u32], each: u8, set: u32) -> u32
+    ensures { result ≡ get_or s.now (each * count_at image.now sets + set) 0 }
+{
+    get(s, words_of(image, each) + (set as usize))
+}
+
+// The set of a place in an order that stands behind the heights.
+#[tactic(auto, unfolding(crate::specs::Order::set_of))]
+pub fn set_of(image: &[u32], s: &[u32], place: u32) -> u32
+    ensures { result ≡ set_of image.now s.now place }
+{
+    get(s, words_of(image, LENT).saturating_sub(place as usize))
+}
+
+// The order of the sets, behind so many words for each.
+pub fn order_behind(image: &[u32], s: &mut [u32], each: u8)
+    ensures { Outside (each * count_at image.now sets) (2 * count_at image.now sets) s.old s.new }
+{
+    let start = words_of(image, each);
+    let end = start + words_of(image, ORDER);
+    if end <= s.len() {
+        order_sets(image, &mut s[start..end]);
+    }
+}
+
+// The first set not met before that the selections of a set lead to, from one of them on.
+fn next_unmet(image: &[u32], s: &[u32], set: u32, from: u32) -> Option<Unmet> {
+    let rows = set_selections(image, set);
+    let known = count(image, SETS);
+    for i in from..rows.count {
+        if let Some(below) = set_below(image, selection_row(image, rows.row(i))) {
+            if below < known && get(s, below as usize) == 0 {
+                return Some(Unmet {
+                    set: below,
+                    next: i + 1,
+                });
+            }
+        }
+    }
+    None
+}
+
 // How many sets are under way, each led to by the one before, and how many have a place.
-#[derive(Clone, Copy)]
+#[derive(Clone, Copy, Default)]
 struct Descent {
     under: u32,
     placed: u32,
 }
 
-// The first set not met before that the selections of a set lead to, from one of them on.
-fn next_unmet(image: &[u32], s: &[u32], set: u32, from: u32) -> Unmet {
-    let rows = set_selections(image, set);
-    let rows_count = rows.count;
-    let known = count(image, SETS);
-    let mut i = from;
-    while i < rows_count {
-        let below = set_below(image, selection_row(image, row_in(rows, i)));
-        i += 1;
-        if below < known {
-            if get(s, below as usize) == 0 {
-                return Unmet {
-                    set: below,
-                    next: i,
-                };
+impl Descent {
+    // A set is met: its selections are looked at from the first on.
+    fn enter_set(&mut self, image: &[u32], s: &mut [u32], set: u32) {
+        let known = count(image, SETS);
+        if self.under < known {
+            put(s, set as usize, NONE);
+            put(s, (known as usize) + (self.under as usize), set);
+            self.under += 1;
+        }
+    }
+
+    // All that a set leads to was met: it has the next place.
+    fn leave_set(&mut self, image: &[u32], s: &mut [u32], set: u32) {
+        let known = count(image, SETS);
+        self.under = self.under.saturating_sub(1);
+        if self.placed < known {
+            put(s, 2 * (known as usize) - 1 - (self.placed as usize), set);
+            self.placed += 1;
+            put(s, set as usize, self.placed);
+        }
+    }
+
+    // One step on from the last set under way: down to a set not met before, or back up.
+    fn step_on(&mut self, image: &[u32], s: &mut [u32]) {
+        let top = (count(image, SETS) as usize) + (self.under.saturating_sub(1) as usize);
+        let set = get(&s[..], top);
+        let from = get(&s[..], set as usize);
+        match next_unmet(image, &s[..], set, if from == NONE { 0 } else { from }) {
+            Some(unmet) => {
+                put(s, set as usize, unmet.next);
+                self.enter_set(image, s, unmet.set);
             }
+            None => self.leave_set(image, s, set),
         }
     }
-    Unmet { set: NONE, next: i }
-}
 
-// A set is met: its selections are looked at from the first on.
-fn enter_set(image: &[u32], s: &mut [u32], under: u32, set: u32) -> u32 {
-    let known = count(image, SETS);
-    if under < known {
-        put(s, set as usize, NONE);
-        put(s, (known as usize) + (under as usize), set);
-        return under + 1;
-    }
-    under
-}
-
-// All that a set leads to was met: it has the next place.
-fn leave_set(image: &[u32], s: &mut [u32], placed: u32, set: u32) -> u32 {
-    let known = count(image, SETS);
-    if placed < known {
-        put(s, 2 * (known as usize) - 1 - (placed as usize), set);
-        put(s, set as usize, placed + 1);
-        return placed + 1;
-    }
-    placed
-}
-
-// One step on from the last set under way: down to a set not met before, or back up.
-fn step_on(image: &[u32], s: &mut [u32], under: u32, placed: u32) -> Descent {
-    if under == 0 {
-        return Descent { under, placed };
-    }
-    let top = (count(image, SETS) as usize) + ((under - 1) as usize);
-    let set = get(&s[..], top);
-    let from = get(&s[..], set as usize);
-    let unmet = next_unmet(image, &s[..], set, if from == NONE { 0 } else { from });
-    let unmet_set = unmet.set;
-    if unmet_set == NONE {
-        let more = leave_set(image, s, placed, set);
-        return Descent {
-            under: under - 1,
-            placed: more,
-        };
-    }
-    let next = unmet.next;
-    put(s, set as usize, next);
-    let deeper = enter_set(image, s, under, unmet_set);
-    Descent {
-        under: deeper,
-        placed,
-    }
-}
-
-// A set and all that it leads to, directly or not, get places, where they have none. Gives how many sets have one.
-fn order_below(image: &[u32], s: &mut [u32], set: u32, before: u32) -> u32 {
-    if get(&s[..], set as usize) != 0 {
-        return before;
-    }
-    let mut under = enter_set(image, s, 0, set);
-    let mut placed = before;
-    let mut steps = 2 * (count(image, SETS) as usize);
-    while 0 < steps {
-        steps -= 1;
-        let next = step_on(image, s, under, placed);
-        under = next.under;
-        placed = next.placed;
-        if under == 0 {
-            steps = 0;
+    // A set and all that it leads to, directly or not, get places, where they have none.
+    fn order_below(&mut self, image: &[u32], s: &mut [u32], set: u32) {
+        if get(&s[..], set as usize) != 0 {
+            return;
+        }
+        self.enter_set(image, s, set);
+        for _ in 0..2 * (count(image, SETS) as usize) {
+            if self.under == 0 {
+                return;
+            }
+            self.step_on(image, s);
         }
     }
-    placed
 }
 
-pub fn order_sets(image: &[u32], s: &mut [u32]) {
+// All sets get places, those below a set before it.
+fn order_sets(image: &[u32], s: &mut [u32]) {
     let known = count(image, SETS);
     clear(s, 0, known as usize);
-    let mut placed: u32 = 0;
-    let mut set: u32 = 0;
-    while set < known {
-        placed = order_below(image, s, set, placed);
-        set += 1;
+    let mut descent = Descent::default();
+    for set in 0..known {
+        descent.order_below(image, s, set);
     }
 }

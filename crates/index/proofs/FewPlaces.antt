@@ -5,8 +5,8 @@ use Prim.Native.Nat.{ℕ, ◌+◌, ◌≤◌, ◌<◌}
 use native.Mathlib.Omega.{arith}
 use native.Mathlib.Decide.{dec_le}
 use Rattle.index.specs.declared.Index.{Index}
-use Rattle.index.specs.Indexed.{key_at, Finds, here, deeper, nowhere, passed, Linked, Indexed}
-use Rattle.index.proofs.SearchLaws.{Level, level_top, level_down, same_number, word_halved}
+use Rattle.index.specs.Indexed.{key_at, Finds, here, deeper, nowhere, passed, Level, Linked, Indexed}
+use Rattle.index.proofs.SearchLaws.{level_top, level_down, same_number, word_halved}
 
 module _ {s : List ℕ} {index : Index} {n : ℕ} (l : Linked s index n) (words : (p : ℕ) → p < index.count → key_at s index p < 4294967296)
     (key : ℕ) (word : key < 4294967296) where

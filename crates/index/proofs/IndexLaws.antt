@@ -16,8 +16,8 @@ use Rattle.lists.specs.Part.{write, Outside}
 use Rattle.lists.proofs.EveryLaws.{position_below, position_found, position_passes, position_le, before_position}
 use Rattle.lists.proofs.Parts.{write_outside, stores_written, stores_get_or, set_outside, outside_wider, outside_none}
 use Rattle.index.specs.declared.Index.{Index}
-use Rattle.index.specs.Indexed.{key_at, first_place, link_place, link_at, words_of, Finds, here, deeper, nowhere, Descends, Linked, Indexed, Links}
-use Rattle.index.proofs.SearchLaws.{link_behind, link_inside, link_once, link_bit, ends_here, ends_nowhere, Extends, other_key, deeper_there, Level, descends_kept, Searching}
+use Rattle.index.specs.Indexed.{key_at, first_place, link_place, link_at, words_of, Finds, here, deeper, nowhere, Descends, Extends, Level, Searching, Linked, Indexed, Links}
+use Rattle.index.proofs.SearchLaws.{link_behind, link_inside, link_once, link_bit, ends_here, ends_nowhere, other_key, deeper_there, descends_kept}
 
 -- ---- the first place of a key
 
@@ -263,11 +263,7 @@ module _ (s : List ℕ) {t : List ℕ} (index : Index) (inside : index.at + word
         missing = λ key none. nowhere-on key key (none 0 (omega arith));
       }
 
--- nothing is found among no keys, nor where the words do not suffice
-pub none_first : (s : List ℕ) (index : Index) (key : ℕ) → index.count ≡ 0 → 0 ≡ first_place s index key
-unfolding first_place
-none_first s index key none = let few = position_le index.count (λ j. eqb (key_at s index j) key) in omega arith
-
+-- nothing is built where the words do not suffice
 pub never_indexed : {s : List ℕ} {index : Index} → (index.count ≡ 0 → ⊥) → leb (index.at + words_of index) (length s) ≡ false → Indexed s index → ⊥
 never_indexed {s} {index} some short i =
     let inside = (i.linked (omega arith)).inside in

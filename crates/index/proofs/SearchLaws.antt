@@ -6,7 +6,7 @@ use Prim.Native.Nat.{ℕ, zero, suc, ◌+◌, ◌*◌, ◌≤◌, ◌<◌, ◌/�
 use native.Mathlib.Omega.{arith}
 use native.Mathlib.Decide.{dec_le}
 use Rattle.index.specs.declared.Index.{Index}
-use Rattle.index.specs.Indexed.{key_at, link_place, link_at, words_of, Finds, here, deeper, nowhere, halved, Agree, Descends}
+use Rattle.index.specs.Indexed.{key_at, link_place, link_at, words_of, Finds, here, deeper, nowhere, halved, Agree, Descends, Extends, Level, Searching, Comes}
 
 -- ---- where a link stands
 
@@ -49,10 +49,6 @@ module _ {s : List ℕ} {index : Index} {key r : ℕ} where
 
 -- ---- words in which every search that goes on goes on as before
 
-pub record Extends (s : List ℕ) (index : Index) (t : List ℕ) : Type 0 where
-  pub keys : (p : ℕ) → p < index.count → key_at t index p ≡ key_at s index p
-  pub links : (p bits : ℕ) → p < index.count → p < link_at s index p bits → link_at t index p bits ≡ link_at s index p bits
-
 module _ {s t : List ℕ} {index : Index} {key : ℕ} (kept : Extends s index t) where
   pub other_key : {p : ℕ} → p < index.count → (key_at s index p ≡ key → ⊥) → key_at t index p ≡ key → ⊥
   other_key {p} l ne e = ne (sym (kept.keys p l) ∙ e)
@@ -64,11 +60,6 @@ module _ {s t : List ℕ} {index : Index} {key : ℕ} (kept : Extends s index t)
       deeper {p = p} {bits = bits} (other_key l ne) (rw same lt) (rw same inside) (rw same f)
 
 -- ---- the level of a place
-
--- a search has come to its place by as many bits as that has levels above it
-pub record Level (s : List ℕ) (index : Index) (depth : ℕ → ℕ) (key p bits : ℕ) : Type 0 where
-  pub rest : bits ≡ halved (depth p) key
-  pub shared : Agree (depth p) (key_at s index p) key
 
 pub level_top : {s : List ℕ} {index : Index} {depth : ℕ → ℕ} (key : ℕ) → depth 0 ≡ 0 → Level s index depth key 0 key
 unfolding halved
@@ -121,11 +112,7 @@ pub descends_kept : {s t : List ℕ} {index : Index} {depth depth' : ℕ → ℕ
 descends_kept link own below key lower d =
     record { level = rw (link, own, below) d.level; agrees = rw (link, own, key, lower) d.agrees; bit = rw (link, own, lower) d.bit }
 
--- ---- a search under way: what it is to find it finds from here, and what is found from here it finds
-
-pub record Searching (s : List ℕ) (index : Index) (key place bits : ℕ) : Type 0 where
-  pub onward : (r : ℕ) → Finds s index key r 0 key → Finds s index key r place bits
-  pub back : (t : List ℕ) → Extends s index t → (r : ℕ) → Finds t index key r place bits → Finds t index key r 0 key
+-- ---- a search under way
 
 pub searching_begins : (s : List ℕ) (index : Index) (key : ℕ) → Searching s index key 0 key
 searching_begins s index key = record { onward = λ r f. f; back = λ t e r f. f }
@@ -137,3 +124,16 @@ searching_on g l ne lt inside =
       onward = λ r f. (goes_on (g.onward r f) ne lt).0;
       back = λ t e r f. g.back t e r (deeper_there e l ne lt inside f);
     }
+
+-- ---- the search comes to a place
+
+pub comes_first : (s : List ℕ) (index : Index) (key : ℕ) → 0 < index.count → Comes s index key 0 key
+comes_first s index key some = record { inside = some; searching = searching_begins s index key; linked = λ n first l. (first, level_top key l.top) }
+
+pub comes_on : {s : List ℕ} {index : Index} {key p bits : ℕ} → Comes s index key p bits → (key_at s index p ≡ key → ⊥) → p < link_at s index p bits
+    → link_at s index p bits < index.count → Comes s index key (link_at s index p bits) (bits / 2)
+comes_on {p = p} {bits = bits} g ne lt inside = record {
+  inside = inside;
+  searching = searching_on g.searching g.inside ne lt inside;
+  linked = λ n first l. (l.low p bits g.inside, level_down (g.linked n first l).1 (l.down p bits g.inside lt));
+}

@@ -2,6 +2,7 @@
 --     first_place       what a search is to find
 --     Finds, passed     how the links lead there, and over how many places
 --     Linked, Indexed   some places, or all, are found by the links
+--     Arrives, Ends     a search ends at a place, or at a link
 --     Links, Built      one place more is linked, or all are
 --     Firsts            all are, and the first places are told
 -- Assumes nothing.
@@ -67,6 +68,41 @@ pub record Linked (s : List ℕ) (index : Index) (n : ℕ) : Type 0 where
   pub down : (p bits : ℕ) → p < index.count → p < link_at s index p bits → Descends s index depth p bits
   pub found : (p : ℕ) → p < n → ((j : ℕ) → j < p → key_at s index j ≡ key_at s index p → ⊥) → Finds s index (key_at s index p) p 0 (key_at s index p)
   pub missing : (key : ℕ) → ((j : ℕ) → j < n → key_at s index j ≡ key → ⊥) → Finds s index key index.count 0 key
+
+-- words in which every search that goes on goes on as before
+pub record Extends (s : List ℕ) (index : Index) (t : List ℕ) : Type 0 where
+  pub keys : (p : ℕ) → p < index.count → key_at t index p ≡ key_at s index p
+  pub links : (p bits : ℕ) → p < index.count → p < link_at s index p bits → link_at t index p bits ≡ link_at s index p bits
+
+-- a search has come to its place by as many bits as that has levels above it
+pub record Level (s : List ℕ) (index : Index) (depth : ℕ → ℕ) (key p bits : ℕ) : Type 0 where
+  pub rest : bits ≡ halved (depth p) key
+  pub shared : Agree (depth p) (key_at s index p) key
+
+-- a search under way: what it is to find it finds from here, and what is found from here it finds
+pub record Searching (s : List ℕ) (index : Index) (key place bits : ℕ) : Type 0 where
+  pub onward : (r : ℕ) → Finds s index key r 0 key → Finds s index key r place bits
+  pub back : (t : List ℕ) → Extends s index t → (r : ℕ) → Finds t index key r place bits → Finds t index key r 0 key
+
+-- the search for a key comes to a place, with these bits left; among linked places to one of them
+pub record Comes (s : List ℕ) (index : Index) (key place bits : ℕ) : Type 0 where
+  pub inside : place < index.count
+  pub searching : Searching s index key place bits
+  pub linked : (n : ℕ) → 0 < n → (l : Linked s index n) → (place < n) × Level s index l.depth key place bits
+
+-- it ends at a place that has the key, or at a link that does not lead on
+pub record Arrives (s : List ℕ) (index : Index) (key place : ℕ) : Type 0 where
+  pub bits : ℕ
+  pub comes : Comes s index key place bits
+  pub has : key_at s index place ≡ key
+
+pub record Ends (s : List ℕ) (index : Index) (key link : ℕ) : Type 0 where
+  pub place : ℕ
+  pub bits : ℕ
+  pub comes : Comes s index key place bits
+  pub other : key_at s index place ≡ key → ⊥
+  pub stands : link ≡ link_place index place bits
+  pub ends : (link_at s index place bits ≤ place) ⊎ (index.count ≤ link_at s index place bits)
 
 -- all are, if there are any
 pub record Indexed (s : List ℕ) (index : Index) : Type 0 where

@@ -4,16 +4,19 @@ use mathlib.Core.Path.{◌≡◌, refl, sym, ap, ◌∙◌}
 use mathlib.Core.Bool.{Bool, true, false, not, cond, false≢true}
 use Prim.Native.Nat.{ℕ, zero, suc, ◌+◌, ◌<◌, ◌≤◌, zero-le, suc-le-suc}
 use native.Mathlib.Nat.{le_of_suc-le-suc, not-suc-le-zero, le_of_eq, le_refl}
-use native.Mathlib.Decide.{le_ind}
-use borrow.Author.Tests.{lt-ltb, le-ltb}
+use native.Mathlib.Decide.{le_ind, dec_le}
+use borrow.Author.Tests.{lt-ltb, le-ltb, ltb-true}
 use lib.Arith.{lt_of_le-ne}
 use lib.Dec.{ltb}
 use native.Mathlib.Numerals.{add-one}
 use native.Mathlib.Omega.{arith}
 use borrow.Author.Tests.{eq-eqb, ne_eqb, eqb-true}
 use lib.Dec.{eqb}
-use Rattle.lists.specs.Every.{every, position, total, find, absent, distinct, Distinct}
-use Rattle.lists.proofs.Tests.{both, first_of, second_of, not_true, not_false}
+use Rattle.std.specs.Prelude.{Some, None, is_some, unwrap_or, nat_eq}
+use Rattle.std.specs.Option.{option_eq}
+use Rattle.std.proofs.lemmas.Option.{none-some, cond_some}
+use Rattle.lists.specs.Every.{every, position, found, total, find, absent, distinct, Distinct}
+use Rattle.lists.proofs.Tests.{both, first_of, second_of, not_true, not_false, not_is_true}
 
 -- where all numbers below m are below n, m is n at most
 pub all_below : (m n : ℕ) → ((k : ℕ) → k < m → k < n) → m ≤ n
@@ -117,6 +120,53 @@ before_position (suc n) p k l = go (p zero) refl (before_position n (λ j. p (su
     go true e rest k below = absurd (not-suc-le-zero below)
     go false e rest zero below = e
     go false e rest (suc k) below = rest k (le_of_suc-le-suc below)
+
+-- ---- a search's answer
+
+pub found_some : {n i : ℕ} → i < n → found n i ≡ Some i
+found_some {n} {i} l = rw (lt-ltb i n l)
+
+pub found_none : {n i : ℕ} → n ≤ i → found n i ≡ None
+found_none {n} {i} l = rw (le-ltb i n l)
+
+-- what an answer says of the number
+pub some_found : {n i j : ℕ} → Some j ≡ found n i → (i ≡ j) × (i < n)
+some_found {n} {i} {j} e = let here = cond_some (ltb i n) i j (sym e) in (here.1, ltb-true i n here.0)
+
+pub none_found : {n i : ℕ} → None ≡ found n i → n ≤ i
+none_found {n} {i} e = elim (dec_le n i) [ yes l ↦ l | no l ↦ absurd (none-some i (e ∙ found_some (omega arith))) ]
+
+-- a position is n at most, so n stands for no answer
+position_is : (n : ℕ) (p : ℕ → Bool) → n ≤ position n p → position n p ≡ n
+position_is n p l = omega (arith, position_le n p)
+
+pub unwrap_found : (n : ℕ) (p : ℕ → Bool) → unwrap_or (found n (position n p)) n ≡ position n p
+unwrap_found n p = elim (dec_le n (position n p)) [
+  | yes l ↦ rw (found_none l) (omega (arith, position_le n p))
+  | no l ↦ let below : position n p < n = omega arith in rw (found_some below)
+]
+
+-- `is_none` of the answer says that the position is n
+pub none_where : (n : ℕ) (p : ℕ → Bool) (b : Bool) → is_some (found n (position n p)) ≡ not b → b ≡ eqb (position n p) n
+none_where n p b is = elim (dec_le n (position n p)) [
+  | yes l ↦ let none : false ≡ not b = rw (found_none l) at is in rw (eq-eqb (position n p) n (position_is n p l)) (not_false b (sym none))
+  | no l ↦ let below : position n p < n = omega arith in let some : true ≡ not b = rw (found_some below) at is in
+      rw (ne_eqb (position n p) n (λ e. omega arith)) (not_is_true b (sym some))
+]
+
+-- the answer is k, for a k below n, where the position is k
+pub same_found : {n k : ℕ} (i : ℕ) → k < n → option_eq nat_eq (found n i) (Some k) ≡ eqb i k
+same_found {n} {k} i below = elim (dec_le n i) [
+  | yes l ↦ rw (found_none l) (sym (ne_eqb _ _ (λ e. omega arith)))
+  | no l ↦ let here : i < n = omega arith in rw (found_some here)
+]
+
+-- a number that passes, below which none does, is the answer; where none passes, there is none
+pub found_here : (n : ℕ) (p : ℕ → Bool) (i : ℕ) → i < n → ((k : ℕ) → k < i → p k ≡ false) → p i ≡ true → Some i ≡ found n (position n p)
+found_here n p i l below here = rw (position_found n p i l below here) (sym (found_some l))
+
+pub found_nowhere : (n : ℕ) (p : ℕ → Bool) → ((k : ℕ) → k < n → p k ≡ false) → None ≡ found n (position n p)
+found_nowhere n p none = rw (position_none n p none) (sym (found_none (le_refl n)))
 
 -- ---- the first row that fails its rule
 

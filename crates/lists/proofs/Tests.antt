@@ -42,3 +42,7 @@ not_true a e = rw e
 pub not_false : (a : Bool) → not a ≡ false → a ≡ true
 not_false true e = refl
 not_false false e = absurd (false≢true (rw e refl))
+
+pub not_is_true : (a : Bool) → not a ≡ true → a ≡ false
+not_is_true true e = absurd (false≢true e)
+not_is_true false e = refl

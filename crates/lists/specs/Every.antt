@@ -1,6 +1,6 @@
 -- Tests of the numbers below n: whether all pass, which is the first, how many there are, and whether their keys are distinct.
 -- Assumes nothing.
-use Rattle.std.specs.Prelude.{ℕ, zero, suc, ◌<◌, ◌+◌, ◌≡◌, Bool, true, cond, ◌&&◌, eqb}
+use Rattle.std.specs.Prelude.{ℕ, zero, suc, ◌<◌, ◌+◌, ◌≡◌, Bool, true, cond, ◌&&◌, eqb, ltb, Option, Some, None}
 
 -- every k below n passes
 unfoldable pub every : ℕ → (ℕ → Bool) → Bool
@@ -11,6 +11,10 @@ every (suc n) p = p zero && every n (λ k. p (suc k))
 unfoldable pub position : ℕ → (ℕ → Bool) → ℕ
 position zero p = zero
 position (suc n) p = cond (p zero) zero (suc (position n (λ k. p (suc k))))
+
+-- i, if it is below n: what a search below n answers, whose `position` is i
+abbrev pub found : ℕ → ℕ → Option ℕ
+found n i = cond (ltb i n) (Some i) None
 
 -- a number to start from, and what each k below n adds to it
 unfoldable pub total : ℕ → (ℕ → ℕ) → ℕ → ℕ

@@ -12,19 +12,12 @@ const MOST_BYTES: usize = 32769;
 
 const BUDGET: u32 = 1000;
 
-fn print_number(rt: &impl Print, n: u32, after: &str) -> io::Result<()> {
-    print!(rt; "{n}{after}")
-}
-
 // The five words that the reply bytes spell.
 fn print_reply(rt: &impl Print, reply: &[u8]) -> io::Result<()> {
     let mut words = [0u32; 5];
     read_words(reply, &mut words, 5);
-    print_number(rt, words[0], " ")?;
-    print_number(rt, words[1], " ")?;
-    print_number(rt, words[2], " ")?;
-    print_number(rt, words[3], " ")?;
-    print_number(rt, words[4], "\n")
+    let [kind, operation, a, b, used] = words;
+    println!(rt; "{kind} {operation} {a} {b} {used}")
 }
 
 // Fills the bytes from the input as far as it goes, and says how many there were.

@@ -32,14 +32,14 @@ module _ {image : List ℕ} {work : ℕ} where
     one_more : i < count_at image operations → count_at image operations - i ≡ suc (count_at image operations - suc i)
     one_more own = omega arith
 
-    module _ {s' : List ℕ} {r : Reply} (own : i < count_at image operations) (checked : Checked image work s s' i used r) where
-      pub going_next : r.kind ≡ 0 → Going image work s₀ s' (i + 1) r.used
-      going_next passes =
+    module _ {s' : List ℕ} (own : i < count_at image operations) where
+      pub going_next : {u : ℕ} → Checked image work s s' i used (answer 0 i 0 0 u) → Going image work s₀ s' (i + 1) u
+      going_next {u} checked =
           let next : i + 1 ≡ suc i = omega arith in
           let here : operations_from check image work (count_at image operations - i) i used ≡ operations_from check image work (suc (count_at image operations - suc i)) i used = ap (λ (n : ℕ). operations_from check image work n i used) (one_more own) in
           let spent = ap (λ (r : Reply). r.used) checked.says in
-          let after = goes_on check image work i (count_at image operations - suc i) used (sym (ap (λ (r : Reply). r.kind) checked.says) ∙ passes) in
-          let later : operations_from check image work (count_at image operations - suc i) (suc i) (operation_reply check image work i used).used ≡ operations_from check image work (count_at image operations - (i + 1)) (i + 1) r.used = rw (spent, next) refl in
+          let after = goes_on check image work i (count_at image operations - suc i) used (sym (ap (λ (r : Reply). r.kind) checked.says)) in
+          let later : operations_from check image work (count_at image operations - suc i) (suc i) (operation_reply check image work i used).used ≡ operations_from check image work (count_at image operations - (i + 1)) (i + 1) u = rw (spent, next) refl in
           record {
             long = checked.long ∙ going.long;
             lent = checked.lent;
@@ -48,8 +48,8 @@ module _ {image : List ℕ} {work : ℕ} where
             goes = going.goes ∙ here ∙ after ∙ later;
           }
 
-      pub going_stops : (r.kind ≡ 0 → ⊥) → CheckedAll image work s₀ s' r
-      going_stops wrong =
+      pub going_stops : {r : Reply} → Checked image work s s' i used r → (r.kind ≡ 0 → ⊥) → CheckedAll image work s₀ s' r
+      going_stops checked wrong =
           let here : operations_from check image work (count_at image operations - i) i used ≡ operations_from check image work (suc (count_at image operations - suc i)) i used = ap (λ (n : ℕ). operations_from check image work n i used) (one_more own) in
           let last = stops check image work i (count_at image operations - suc i) used (λ e. wrong (ap (λ (r : Reply). r.kind) checked.says ∙ e)) in
           record { long = checked.long ∙ going.long; says = checked.says ∙ last ∙ sym (going.goes ∙ here) }

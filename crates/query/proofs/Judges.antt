@@ -9,6 +9,7 @@ use borrow.Author.Tests.{leb-true}
 use lib.Dec.{leb}
 use lib.ListN.{length, take, drop, replicate, length-append, length-replicate}
 use lib.Seq.{length-take-le, drop_at}
+use Rattle.std.proofs.lemmas.Result.{err_from_is_err_and}
 use Rattle.lists.specs.First.{expect, ◌▷◌}
 use Rattle.lists.specs.Part.{write}
 use Rattle.lists.proofs.Parts.{length_write}
@@ -16,24 +17,21 @@ use Rattle.lists.proofs.FirstLaws.{some_is_not_none}
 use Rattle.tables.specs.Layout.{selections}
 use Rattle.tables.specs.Image.{count_at}
 use Rattle.tables.specs.Header.{Refusal, header_fault}
-use Rattle.rows.specs.RowFault.{row_fault, image_fault, rows_show}
-use Rattle.rows.specs.declared.Rows.{Rows}
-use Rattle.rows.specs.declared.Rows.TheVariants as rows
+use Rattle.rows.specs.RowFault.{row_fault, image_fault}
 use Rattle.tables.specs.Good.{Good}
 use Rattle.rows.proofs.Promise.{good_image, rows_decide}
 use Rattle.variable.specs.Uses.{uses_words}
 use Rattle.fragment.specs.Rules as fragment
-use Rattle.fragment.specs.declared.rules.Fragments.{Fragments}
-use Rattle.fragment.specs.declared.rules.Fragments.TheVariants as fragments
 use Rattle.selection.specs.declared.arena.Reply.{Reply}
 use Rattle.selection.specs.Regions.{arena_of}
 use Rattle.selection.proofs.RegionLaws.{store_is}
 use Rattle.query.specs.Needed.{most_work, scratch_needed}
 use Rattle.query.specs.Reply.{answer, of_image, refused, faulty, reply_by, reply, scratch_after}
-use Rattle.query.specs.Refusing.{refused_shows}
-use Rattle.query.specs.declared.refuse.Refused.{Refused}
-use Rattle.query.specs.declared.refuse.Refused.TheVariants as refusing
 use Rattle.query.specs.Operation.{Ready, CheckedAll}
+use Rattle.std.specs.Prelude.{Result, IsErrAnd}
+use Rattle.query.specs.declared.fault.Fault.{Fault}
+use Rattle.query.specs.Faults.{fault_reply}
+use Rattle.query.specs.Outcome.{outcome}
 use Rattle.query.specs.Judging.{Room, Fits, JudgesDocument, JudgesImage, JudgesAll}
 use Rattle.query.proofs.Sizes.{nine_counts}
 
@@ -50,42 +48,46 @@ module _ {image : List ℕ} {work : ℕ} where
         let store = store_is {image = image} {arena = arena_of image work} work fits.good refl fits.limit in
         omega (arith, fits.room, nine_counts image, store)
 
-    module _ {s' : List ℕ} (f : Fragments) (same : s' ≡ fragment.cleared s (fragment.fragments_words image))
-        (shows : Good image → fragment.fragments_words image ≤ length s → fragment.fragments_show f ≡ fragment.fragments_fault image) where
+    module _ {s' : List ℕ} {f : Option fragment.Refusal} (same : s' ≡ fragment.cleared s (fragment.fragments_words image))
+        (shows : Good image → fragment.fragments_words image ≤ length s → f ≡ fragment.fragments_fault image) where
       as_long : length s' ≡ length s
       unfolding fragment.cleared
       as_long =
           let fill : length {A = ℕ} (replicate (min (fragment.fragments_words image) (length s)) 0) ≡ min (fragment.fragments_words image) (length s) = length-replicate _ _ in
           ap length same ∙ length_write s 0 (replicate (min (fragment.fragments_words image) (length s)) 0) (omega (arith, fill))
 
-      shown : fragment.fragments_show f ≡ fragment.fragments_fault image
+      shown : f ≡ fragment.fragments_fault image
       shown = shows fits.good covers_fragments
 
-      pub by_fragments : {kind operation a : ℕ} → f ≡ fragments.Wrong kind operation a → JudgesDocument image work s s' (answer kind operation a 0 0)
-      by_fragments wrong = record { long = as_long; says = let told = ap fragment.fragments_show (sym wrong) ∙ shown in rw (← told) refl }
+      pub by_fragments : (r : fragment.Refusal) → f ≡ some r → JudgesDocument image work s s' (answer r.kind r.operation r.a 0 0)
+      by_fragments r wrong = record { long = as_long; says = let told = sym wrong ∙ shown in rw (← told) refl }
 
-      pub ready_after : f ≡ fragments.Good → Ready image work s'
-      ready_after good = record { good = fits.good; fragments = sym shown ∙ ap fragment.fragments_show good; limit = fits.limit; room = omega (arith, as_long, covers_operations) }
+      pub ready_after : f ≡ none → Ready image work s'
+      ready_after good = record { good = fits.good; fragments = sym shown ∙ good; limit = fits.limit; room = omega (arith, as_long, covers_operations) }
 
-      pub by_operations : {s'' : List ℕ} {r : Reply} → f ≡ fragments.Good → CheckedAll image work s' s'' r → JudgesDocument image work s s'' r
-      by_operations good checked = record { long = checked.long ∙ as_long; says = let told = ap fragment.fragments_show (sym good) ∙ shown in rw (← told) checked.says }
+      pub by_operations : {s'' : List ℕ} {r : Reply} → f ≡ none → CheckedAll image work s' s'' r → JudgesDocument image work s s'' r
+      by_operations good checked = record { long = checked.long ∙ as_long; says = let told = sym good ∙ shown in rw (← told) checked.says }
 
   -- ---- rows
-  module _ (s : List ℕ) (room : Room image work (length s)) (r : Rows) (shows : rows_show r ≡ image_fault image) where
-    rows_shown : rows_show r ≡ row_fault image
+  module _ (s : List ℕ) (room : Room image work (length s)) {f : Option Refusal} (shows : f ≡ image_fault image) where
+    rows_shown : f ≡ row_fault image
     rows_shown = shows ∙ rows_decide image room.header
 
-    pub fits_after : r ≡ rows.Good → Fits image work (length s)
-    fits_after good = record { good = good_image image (sym shows ∙ ap rows_show good); limit = room.limit; room = room.room }
+    pub fits_after : f ≡ none → Fits image work (length s)
+    fits_after good = record { good = good_image image (sym shows ∙ good); limit = room.limit; room = room.room }
 
     -- what the rows show is the reply
-    pub by_rows : (o : Refusal) {p : Reply} → rows_show r ≡ some o → p ≡ answer o.kind 0 o.a o.b 0 → JudgesImage image work s s p
+    pub by_rows : (o : Refusal) → f ≡ some o → JudgesImage image work s s (answer o.kind 0 o.a o.b 0)
     unfolding faulty ◌▷◌
-    by_rows o told e = record { long = refl; says = let found = sym told ∙ rows_shown in rw (← found) e }
+    by_rows o told = record { long = refl; says = let found = sym told ∙ rows_shown in rw (← found) refl }
 
-    pub by_document : {s' : List ℕ} {p : Reply} → r ≡ rows.Good → JudgesDocument image work s s' p → JudgesImage image work s s' p
+    pub by_document : {s' : List ℕ} {p : Reply} → f ≡ none → JudgesDocument image work s s' p → JudgesImage image work s s' p
     unfolding faulty ◌▷◌
-    by_document good judged = record { long = judged.long; says = let none_found = ap rows_show (sym good) ∙ rows_shown in rw (← none_found) judged.says }
+    by_document good judged = record { long = judged.long; says = let none_found = sym good ∙ rows_shown in rw (← none_found) judged.says }
+
+-- ---- a fault that was passed on is the outcome
+pub ended_by : (i : ℕ) (r : Result ℕ Fault) (fault : Fault) → IsErrAnd r (λ e. e ≡ fault) → outcome i r ≡ fault_reply fault
+ended_by i r fault given = let p = err_from_is_err_and r given in rw p.1 (ap fault_reply p.2)
 
 -- ---- the whole
 module _ (image : List ℕ) (work : ℕ) where
@@ -132,14 +134,11 @@ module _ (image : List ℕ) (work : ℕ) where
       let fits : n ≤ length s = omega (arith, room.room) in
       record { says = judged.says; clear = cleared ∙ all_clear s ys n needed fits (judged.long ∙ length-take-le n s fits) }
 
-  module _ (s : List ℕ) (f : Refused) (shows : refused_shows f ≡ refused image work (length s)) where
-    pub reply_refused : {kind a : ℕ} {r : Reply} → f ≡ refusing.By kind a → r ≡ answer kind 0 a 0 0 → (r ≡ reply image work (length s)) × (s ≡ scratch_after image work s)
+  module _ (s : List ℕ) {f : Option Reply} (shows : f ≡ refused image work (length s)) where
+    pub reply_refused : {r : Reply} → f ≡ some r → (r ≡ reply image work (length s)) × (s ≡ scratch_after image work s)
     unfolding reply_by scratch_after
-    reply_refused wrong e = let told = ap refused_shows (sym wrong) ∙ shows in (rw (← told) e, rw (← told) refl)
+    reply_refused wrong = let told = sym wrong ∙ shows in (rw (← told) refl, rw (← told) refl)
 
-    pub none_refused : f ≡ refusing.Not → refused image work (length s) ≡ none
-    none_refused good = sym shows ∙ ap refused_shows good
-
-    pub reply_judged : {s' : List ℕ} {r : Reply} → f ≡ refusing.Not → JudgesAll image work s s' r → (r ≡ reply image work (length s)) × (s' ≡ scratch_after image work s)
+    pub reply_judged : {s' : List ℕ} {r : Reply} → f ≡ none → JudgesAll image work s s' r → (r ≡ reply image work (length s)) × (s' ≡ scratch_after image work s)
     unfolding reply_by scratch_after
-    reply_judged good judged = let told = none_refused good in (rw told judged.says, rw told judged.clear)
+    reply_judged good judged = let told = sym shows ∙ good in (rw told judged.says, rw told judged.clear)

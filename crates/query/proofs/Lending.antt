@@ -10,9 +10,7 @@ use Rattle.lists.specs.Part.{Outside}
 use Rattle.tables.specs.Layout.{operations}
 use Rattle.tables.specs.Image.{count_at}
 use Rattle.variable.specs.Uses.{uses_words}
-use Rattle.variable.specs.Verdict.{usage_shows, usage_fault, Judged}
-use Rattle.variable.specs.declared.rules.Usage.{Usage}
-use Rattle.variable.specs.declared.rules.Usage.TheVariants as usage
+use Rattle.variable.specs.Verdict.{Usage, Shown, usage_shows, usage_fault, Judged}
 use Rattle.selection.specs.declared.arena.Reply.{Reply}
 use Rattle.selection.specs.Regions.{arena_of}
 use Rattle.selection.specs.Classes.{Prepared, Prepares}
@@ -21,6 +19,10 @@ use Rattle.selection.proofs.RegionLaws.{places, links_fit}
 use Rattle.selection.proofs.StandLaws.{prepared_kept, in_front}
 use Rattle.query.specs.Reply.{answer}
 use Rattle.query.proofs.Soundness.{operation_sound}
+use Rattle.std.specs.Prelude.{Ok, Err}
+use Rattle.variable.specs.declared.rules.VariableError.{VariableError}
+use Rattle.merge_theory.specs.Walk.{check}
+use Rattle.query.proofs.OneOperation.{passing}
 use Rattle.query.specs.Operation.{operation_reply, Ready, Lent, Checked}
 
 -- `&mut s[a..]`, as it is lent
@@ -38,6 +40,11 @@ module _ (s : List ℕ) (a : ℕ) (room : a ≤ length s) (ys : List ℕ) where
   pub there_again : (k : ℕ) → get_or (take a s ++ ys) (a + k) 0 ≡ get_or ys k 0
   there_again k = let place : a + k ≡ length (take a s) + k = ap (λ (n : ℕ). n + k) (sym (length-take-le a s room)) in rw place (get_or-append-add (take a s) ys k 0)
 
+-- where no variable is at fault, nothing is shown
+pub shows_nothing : (u : Usage) → ((error : VariableError) → u ≡ Err error → ⊥) → usage_shows u ≡ none
+shows_nothing (Ok _) right = refl
+shows_nothing (Err error) right = absurd (right error refl)
+
 module _ {image : List ℕ} {work : ℕ} where
   pub ready_as_long : {s s' : List ℕ} → length s' ≡ length s → Ready image work s → Ready image work s'
   ready_as_long h r = record { good = r.good; fragments = r.fragments; limit = r.limit; room = omega (arith, r.room) }
@@ -53,17 +60,17 @@ module _ {image : List ℕ} {work : ℕ} where
     room : uses_words image ≤ length s
     room = omega (arith, lent.ready.room)
 
-    pub by_variables : (used : ℕ) {kind a : ℕ} → u ≡ usage.Wrong kind a → Checked image work s s' i used (answer kind i a 0 used)
+    pub by_variables : (used : ℕ) (r : Shown) → usage_shows u ≡ some r → Checked image work s s' i used (answer r.kind i r.a 0 used)
     unfolding operation_reply
-    by_variables used {kind} {a} wrong =
-        let shown : some (record { kind = kind; a = a }) ≡ usage_fault image i = ap usage_shows (sym wrong) ∙ judged.shows room in
+    by_variables used r wrong =
+        let shown : some r ≡ usage_fault image i = sym wrong ∙ judged.shows room in
         record { long = judged.frame.long; lent = lent_kept judged.frame lent; says = rw (← shown) refl }
 
-    pub by_walk : {used front : ℕ} {r : Reply} (ys : List ℕ) → u ≡ usage.Good → i < count_at image operations → used ≤ work → front ≡ uses_words image
+    pub by_walk : {used front : ℕ} {r : Reply} (ys : List ℕ) → usage_shows u ≡ none → i < count_at image operations → used ≤ work → front ≡ uses_words image
         → Validates image work i used (take (length s' - front) (drop front s')) ys r → Checked image work s (take front s' ++ (ys ++ drop (length s' - front) (drop front s'))) i used r
     unfolding operation_reply
     by_walk {used} {front} {r} ys good own within e walked =
-        let shown : none ≡ usage_fault image i = ap usage_shows (sym good) ∙ judged.shows room in
+        let shown : none ≡ usage_fault image i = sym good ∙ judged.shows room in
         let next = lent_kept judged.frame lent in
         let ready = next.ready in
         let fits : front ≤ length s' = omega (arith, ready.room) in
@@ -91,6 +98,12 @@ module _ {image : List ℕ} {work : ℕ} where
           };
           says = rw (← shown) told;
         }
+
+  -- an operation that passes is told by what is used by then
+  pub passed : {s s' : List ℕ} {i used : ℕ} {r : Reply} → Checked image work s s' i used r → r.kind ≡ 0 → Checked image work s s' i used (answer 0 i 0 0 r.used)
+  passed {s} {s'} {i} {used} {r} checked zero =
+      let told = passing check image work i used (sym (ap (λ (r : Reply). r.kind) checked.says) ∙ zero) in
+      record { long = checked.long; lent = checked.lent; says = ap (λ (r : Reply). answer 0 i 0 0 r.used) checked.says ∙ sym told }
 
   -- parents and classes are written where the walk of each operation reads them
   pub lent_written : {s : List ℕ} {front : ℕ} (ys : List ℕ) → Ready image work s → front ≡ uses_words image → Prepares image (take (length s - front) (drop front s)) ys

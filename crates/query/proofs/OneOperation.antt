@@ -10,7 +10,7 @@ use Rattle.merge_theory.specs.Steps.{entry, Result, finished, conflict, out, dee
 use Rattle.variable.specs.Verdict.{Shown, usage_fault}
 use Rattle.selection.specs.Refining.{reply_of}
 use Rattle.query.specs.Stages.{stage_of, place}
-use Rattle.query.specs.Reply.{document_of, of_variables, of_walk, or_else, operations_from}
+use Rattle.query.specs.Reply.{answer, document_of, of_variables, of_walk, or_else, operations_from}
 use Rattle.query.specs.Operation.{operation_reply}
 use Rattle.query.proofs.ShownKinds.{one_stage, usage_stage, no_cause_0}
 
@@ -49,6 +49,22 @@ module _ (run : Engine) (image : List ℕ) (work i : ℕ) where
       by_variables : (o : Option Shown) → usage_fault image i ≡ o → (or_else (of_variables i used o) (reply_of i (run (document_of image) work used i))).kind ≡ 0
           → or_else (of_variables i used o) (of_walk i (run (document_of image) work used i) (operations_from run image work left (suc i)))
           ≡ operations_from run image work left (suc i) (or_else (of_variables i used o) (reply_of i (run (document_of image) work used i))).used
+      by_variables none e passes = by_walk (run (document_of image) work used i) passes
+      by_variables (some r) e passes = absurd (omega (arith, ap place (one_stage passes (usage_stage image i e) refl)))
+
+  -- an operation that passes is told by what is used by then
+  pub passing : (used : ℕ) → (operation_reply run image work i used).kind ≡ 0 → operation_reply run image work i used ≡ answer 0 i 0 0 (operation_reply run image work i used).used
+  unfolding operation_reply stage_of
+  passing used passes = by_variables (usage_fault image i) refl passes
+    where
+      by_walk : (r : Result) → (reply_of i r).kind ≡ 0 → reply_of i r ≡ answer 0 i 0 0 (reply_of i r).used
+      by_walk (finished y) passes = refl
+      by_walk (conflict (entry s c a b) y) passes = absurd (no_cause_0 c passes)
+      by_walk (out y) passes = absurd (omega arith)
+      by_walk (deep y) passes = absurd (omega arith)
+
+      by_variables : (o : Option Shown) → usage_fault image i ≡ o → (or_else (of_variables i used o) (reply_of i (run (document_of image) work used i))).kind ≡ 0
+          → or_else (of_variables i used o) (reply_of i (run (document_of image) work used i)) ≡ answer 0 i 0 0 (or_else (of_variables i used o) (reply_of i (run (document_of image) work used i))).used
       by_variables none e passes = by_walk (run (document_of image) work used i) passes
       by_variables (some r) e passes = absurd (omega (arith, ap place (one_stage passes (usage_stage image i e) refl)))
 

@@ -8,3 +8,5 @@ pub mod Right
 pub mod Specimens
 pub mod Operation
 pub mod Judging
+pub mod Outcome
+pub mod Faults

@@ -17,19 +17,16 @@ use tables::{count, table_count, word};
 pub fn rows_in_all(image: &[u32]) -> u64
     ensures { (result ≡ rows_in_all image.now) × (result < 2 ^ 40) }
 {
-    let tables = table_count(word(image, 0));
     let mut sum: u64 = 0;
-    let mut table: u8 = 0;
-    while table < tables {
-        sum += count(image, table) as u64;
-        table += 1;
+    for table in 0..table_count(word(image, 0)) {
+        sum += u64::from(count(image, table));
     }
     sum
 }
 
+#[tactic(auto, unfolding(crate::specs::Needed::scratch_needed))]
 pub fn scratch_needed(image: &[u32], work: u32) -> u64
     ensures { result ≡ scratch_needed image.now work }
 {
-    let rows = rows_in_all(image);
-    8 * (work as u64) + 16 * rows + 4096
+    8 * u64::from(work) + 16 * rows_in_all(image) + 4096
 }

@@ -3,3 +3,4 @@ pub mod WalkLaws
 pub mod Marks
 pub mod ReachMeaning
 pub mod Theorems
+pub mod WorklistLaws

@@ -2,20 +2,24 @@
 // are sets. What they held before changes nothing.
 #![tactic(auto)]
 
-ghost use Rattle.std.specs.Prelude.{◌≡◌, ◌+◌, eqb, get_or};
+ghost use Rattle.std.specs.Prelude.{◌≡◌, ◌≤◌, ◌+◌, eqb, get_or, MatchOption};
 ghost use Rattle.tables.specs.Layout.{sets, operations};
 ghost use Rattle.tables.specs.Image.{count_at};
-ghost use Rattle.tables.specs.Columns.{fragment_set};
-ghost use Rattle.reach.specs.Reach.{led, queue_set, enter_set, walk_selection, walk_set, start_sets, reached_from, Walks, Walked};
+ghost use Rattle.tables.specs.Columns.{fragment_set, selection_at, set_below};
+ghost use Rattle.reach.specs.Marks.{word_of};
+ghost use Rattle.reach.specs.Worklists.{Goes, Starts};
+ghost use Rattle.reach.specs.Reach.{led, queue_set, enter_set, walk_selection, walk_set, start_sets, reached_from, Walked};
 
 use lists::{clear, get, put};
 use tables::columns::{fragment_set, selection_row, set_below, set_selections};
-use tables::{OPERATIONS, Range, SETS, count, row_in};
+use tables::{OPERATIONS, Range, SETS, count};
 
-// A set's mark: it was there at the start, or a selection of a set that is reached leads to it.
-const BEGUN: u32 = 1;
-
-const LED: u32 = 2;
+// A set's mark: it was there at the start, or a selection of a set that is reached leads to it. A set that was not met has 0.
+#[derive(Clone, Copy)]
+enum Mark {
+    Begun = 1,
+    Led = 2,
+}
 
 // The set that stands so far into the queue.
 pub fn queued_set(image: &[u32], s: &[u32], i: u32) -> u32
@@ -28,84 +32,110 @@ pub fn queued_set(image: &[u32], s: &[u32], i: u32) -> u32
 pub fn is_spread(image: &[u32], s: &[u32], fragment: u32) -> bool
     ensures { result ≡ eqb (get_or s.now (fragment_set image.now fragment) 0) led }
 {
-    get(s, fragment_set(image, fragment) as usize) == LED
+    get(s, fragment_set(image, fragment) as usize) == Mark::Led as u32
 }
 
-// One set more in a queue of so many.
-fn queue_set(image: &[u32], s: &mut [u32], queued: u32, set: u32) -> u32
-    ensures { Walks image.now (queue_set image.now set) s.old queued s.new result }
+// The set that a selection leads to, if it leads to one.
+fn leads_to(image: &[u32], row: u32) -> Option<u32>
+    ensures { MatchOption result (count_at image.now sets ≤ set_below image.now (selection_at image.now row)) (λ set. set ≡ set_below image.now (selection_at image.now row)) }
 {
-    let sets = count(image, SETS);
-    if queued < sets {
-        put(s, (sets as usize) + (queued as usize), set);
-        return queued + 1;
-    }
-    queued
+    set_below(image, selection_row(image, row))
 }
 
-// A set is met: it is marked, and queued the first time.
-fn enter_set(image: &[u32], s: &mut [u32], queued: u32, set: u32, mark: u32) -> u32
-    ensures { Walks image.now (enter_set image.now mark set) s.old queued s.new result }
-{
-    if count(image, SETS) <= set {
-        return queued;
-    }
-    let before = get(&s[..], set as usize);
-    put(s, set as usize, mark);
-    if before == 0 {
-        return queue_set(image, s, queued, set);
-    }
-    queued
+// The walk under way: the image, the lent words, and how many sets are queued.
+#[derive(Drop)]
+struct Worklist<'a> {
+    image: &'a [u32],
+    words: &'a mut [u32],
+    queued: u32,
 }
 
-fn walk_selection(image: &[u32], s: &mut [u32], queued: u32, row: u32) -> u32
-    ensures { Walks image.now (walk_selection image.now row) s.old queued s.new result }
-{
-    let below = set_below(image, selection_row(image, row));
-    enter_set(image, s, queued, below, LED)
-}
-
-fn walk_set(image: &[u32], s: &mut [u32], queued: u32, set: u32) -> u32
-    ensures { Walks image.now (walk_set image.now set) s.old queued s.new result }
-{
-    let rows = set_selections(image, set);
-    let rows_count = rows.count;
-    let mut next = queued;
-    let mut i: u32 = 0;
-    while i < rows_count {
-        next = walk_selection(image, s, next, row_in(rows, i));
-        i += 1;
+impl Worklist<'_> {
+    // A set's mark; 0 where it was not met.
+    fn mark_of(&self, set: u32) -> u32
+        ensures { result ≡ get_or self.now.words.now set 0 }
+    {
+        get(&self.words[..], set as usize)
     }
-    next
-}
 
-// The sets of a range are met, and no other.
-fn start_sets(image: &[u32], s: &mut [u32], sets: Range) -> u32
-    ensures { Walked image.now (start_sets image.now «sets») s.old s.new result }
-{
-    clear(s, 0, count(image, SETS) as usize);
-    let sets_count = sets.count;
-    let mut queued: u32 = 0;
-    let mut i: u32 = 0;
-    while i < sets_count {
-        queued = enter_set(image, s, queued, row_in(sets, i), BEGUN);
-        i += 1;
+    // The set that stands so far into the queue.
+    fn set_at(&self, i: u32) -> u32
+        ensures { result ≡ get_or self.now.words.now (count_at self.now.image.now sets + i) 0 }
+    {
+        queued_set(self.image, &self.words[..], i)
     }
-    queued
+
+    // One set more, where the queue has room.
+    fn queue_set(&mut self, set: u32)
+        ensures { Goes (λ image. queue_set image set) self.old self.new }
+    {
+        let sets = count(self.image, SETS);
+        if self.queued < sets {
+            put(self.words, (sets as usize) + (self.queued as usize), set);
+            self.queued += 1;
+        }
+    }
+
+    // A set is met: it is marked, and queued the first time.
+    fn enter_set(&mut self, set: u32, mark: Mark)
+        ensures { Goes (λ image. enter_set image (word_of mark) set) self.old self.new }
+    {
+        if set < count(self.image, SETS) {
+            let before = self.mark_of(set);
+            put(self.words, set as usize, mark as u32);
+            if before == 0 {
+                self.queue_set(set);
+            }
+        }
+    }
+
+    fn walk_selection(&mut self, row: u32)
+        ensures { Goes (λ image. walk_selection image row) self.old self.new }
+    {
+        if let Some(set) = leads_to(self.image, row) {
+            self.enter_set(set, Mark::Led);
+        }
+    }
+
+    fn walk_set(&mut self, set: u32)
+        ensures { Goes (λ image. walk_set image set) self.old self.new }
+    {
+        let rows = set_selections(self.image, set);
+        for i in 0..rows.count {
+            self.walk_selection(rows.row(i));
+        }
+    }
+
+    // The sets of a range are met, and no other.
+    fn start_sets(&mut self, sets: Range)
+        ensures { Starts «sets» self.old self.new }
+    {
+        clear(self.words, 0, count(self.image, SETS) as usize);
+        self.queued = 0;
+        for i in 0..sets.count {
+            self.enter_set(sets.row(i), Mark::Begun);
+        }
+    }
 }
 
 // The sets that those of a range reach stand in the queue then, each once. Gives how many.
 pub fn walk_selections_with_deduped_fragments(image: &[u32], s: &mut [u32], sets: Range) -> u32
     ensures { Walked image.now (reached_from image.now «sets») s.old s.new result }
 {
-    let mut queued = start_sets(image, s, sets);
+    let mut list = Worklist {
+        image,
+        words: s,
+        queued: 0,
+    };
+    list.start_sets(sets);
+    // No `for`: the queue grows as it is worked off.
     let mut walked: u32 = 0;
-    while walked < queued {
-        let set = queued_set(image, &s[..], walked);
+    while walked < list.queued {
+        let set = list.set_at(walked);
         walked += 1;
-        queued = walk_set(image, s, queued, set);
+        list.walk_set(set);
     }
-    queued
+    list.queued
 }
 
 // The sets that all operations start from.

@@ -22,14 +22,34 @@ const MOST_SCRATCH: usize = 262144;
 // More cases than any input has: a proved loop must end.
 const MOST_CASES: u32 = 4294967295;
 
-// The four words before a case's image, or that the input is over. `given` is the budget of a check, the set of a lookup.
+// What a case asks for: a check, or the lookup of a set.
+#[derive(Clone, Copy)]
+enum Form {
+    Check,
+    Lookup,
+}
+
+impl From<u32> for Form {
+    fn from(word: u32) -> Form {
+        if word == 0 { Form::Check } else { Form::Lookup }
+    }
+}
+
+// The four words before a case's image. `given` is the budget of a check, the set of a lookup.
 #[derive(Clone, Copy)]
 struct Case {
-    is_there: bool,
-    form: u32,
+    form: Form,
     given: u32,
     scratch: u32,
     n: u32,
+}
+
+// The words that a case is read into and checked with.
+#[derive(Drop)]
+struct Room {
+    bytes: [u8; MOST_BYTES],
+    image: [u32; MOST_WORDS],
+    scratch: [u32; MOST_SCRATCH],
 }
 
 // Fills the bytes from the input; false where the input ends before.
@@ -41,18 +61,21 @@ fn read_full<R: Read>(input: &mut R, bytes: &mut [u8]) -> io::Result<bool> {
     }
 }
 
-fn read_case<R: Read>(input: &mut R) -> io::Result<Case> {
+// The next case, if the input goes on.
+fn read_case<R: Read>(input: &mut R) -> io::Result<Option<Case>> {
     let mut bytes = [0u8; 16];
     let mut words = [0u32; 4];
-    let is_there = read_full(input, &mut bytes)?;
+    if !read_full(input, &mut bytes)? {
+        return Ok(None);
+    }
     read_words(&bytes, &mut words, 4);
-    Ok(Case {
-        is_there,
-        form: words[0],
-        given: words[1],
-        scratch: words[2],
-        n: words[3],
-    })
+    let [form, given, scratch, n] = words;
+    Ok(Some(Case {
+        form: Form::from(form),
+        given,
+        scratch,
+        n,
+    }))
 }
 
 // The next n words of the input, by way of lent bytes; and whether there are so many.
@@ -71,24 +94,21 @@ fn read_image<R: Read>(
     Ok(whole)
 }
 
-fn print_next<W: Write>(out: &mut W, n: u32) -> io::Result<()> {
-    write!(out, " {n}")
-}
-
 fn print_reply<W: Write>(out: &mut W, reply: Reply, kept: bool) -> io::Result<()> {
-    write!(out, "{}", reply.kind)?;
-    print_next(out, reply.operation)?;
-    print_next(out, reply.a)?;
-    print_next(out, reply.b)?;
-    print_next(out, reply.used)?;
-    print_next(out, kept as u32)?;
-    writeln!(out)
+    let Reply {
+        kind,
+        operation,
+        a,
+        b,
+        used,
+    } = reply;
+    writeln!(out, "{kind} {operation} {a} {b} {used} {}", u32::from(kept))
 }
 
 fn print_part<W: Write>(out: &mut W, part: &[u32]) -> io::Result<()> {
     write!(out, "{}", part.len())?;
     for word in part {
-        print_next(out, *word)?;
+        write!(out, " {word}")?;
     }
     writeln!(out)
 }
@@ -117,7 +137,7 @@ fn is_kept(scratch: &[u32], n: u32, cleared: u64) -> bool {
 
 // The words of scratch that a check hands back as 0: those that it needs, and none where it refuses at once.
 fn words_cleared(image: &[u32], work: u32, kind: u32) -> u64 {
-    if 1 <= kind && kind <= 3 {
+    if (1..=3).contains(&kind) {
         return 0;
     }
     scratch_needed(image, work)
@@ -138,56 +158,35 @@ fn replay_check<W: Write>(
 }
 
 fn replay<W: Write>(out: &mut W, case: Case, image: &[u32], scratch: &mut [u32]) -> io::Result<()> {
-    if case.form == 0 {
-        replay_check(out, image, case.given, scratch, case.scratch)
-    } else {
-        print_part(out, set_part(image, case.given))
+    match case.form {
+        Form::Check => replay_check(out, image, case.given, scratch, case.scratch),
+        Form::Lookup => print_part(out, set_part(image, case.given)),
     }
-}
-
-// The end of a run that asks for more than there is room for.
-fn past_the_limit<W: Write>(out: &mut W) -> io::Result<bool> {
-    writeln!(out, "limit")?;
-    Ok(false)
 }
 
 // One case; whether the run goes on.
-fn replay_next<R: Read, W: Write>(
-    input: &mut R,
-    out: &mut W,
-    bytes: &mut [u8],
-    image: &mut [u32],
-    scratch: &mut [u32],
-) -> io::Result<bool> {
-    let case = read_case(input)?;
+fn replay_next<R: Read, W: Write>(input: &mut R, out: &mut W, room: &mut Room) -> io::Result<bool> {
+    let Some(case) = read_case(input)? else {
+        return Ok(false);
+    };
     let end = case.n as usize;
     let lent = case.scratch as usize;
-    if case.is_there {
-        if image.len() < end {
-            return past_the_limit(out);
-        }
-        if scratch.len() < lent {
-            return past_the_limit(out);
-        }
-        let whole = read_image(input, bytes, image, case.n)?;
-        if whole {
-            replay(out, case, &image[..end], &mut scratch[..lent])?;
-        }
-        return Ok(whole);
+    if MOST_WORDS < end || MOST_SCRATCH < lent {
+        writeln!(out, "limit")?;
+        return Ok(false);
     }
-    Ok(false)
+    let whole = read_image(input, &mut room.bytes, &mut room.image, case.n)?;
+    if whole {
+        let scratch = &mut room.scratch[..];
+        replay(out, case, &room.image[..end], &mut scratch[..lent])?;
+    }
+    Ok(whole)
 }
 
-// All cases of the input, by way of lent bytes and words.
-fn replay_all<R: Read, W: Write>(
-    input: &mut R,
-    out: &mut W,
-    bytes: &mut [u8],
-    image: &mut [u32],
-    scratch: &mut [u32],
-) -> io::Result<()> {
+// All cases of the input.
+fn replay_all<R: Read, W: Write>(input: &mut R, out: &mut W, room: &mut Room) -> io::Result<()> {
     for _ in 0..MOST_CASES {
-        if !replay_next(input, out, bytes, image, scratch)? {
+        if !replay_next(input, out, room)? {
             break;
         }
     }
@@ -195,14 +194,10 @@ fn replay_all<R: Read, W: Write>(
 }
 
 fn main(rt: HostRuntime) -> io::Result<()> {
-    let mut bytes = [0u8; MOST_BYTES];
-    let mut image = [0u32; MOST_WORDS];
-    let mut scratch = [0u32; MOST_SCRATCH];
-    replay_all(
-        &mut rt.reader(),
-        &mut io::writer(&rt),
-        &mut bytes,
-        &mut image,
-        &mut scratch,
-    )
+    let mut room = Room {
+        bytes: [0u8; MOST_BYTES],
+        image: [0u32; MOST_WORDS],
+        scratch: [0u32; MOST_SCRATCH],
+    };
+    replay_all(&mut rt.reader(), &mut io::writer(&rt), &mut room)
 }

@@ -9,7 +9,6 @@ pub mod SelectionLaws
 pub mod SelectionPass
 pub mod SelectionMeaning
 pub mod LevelLaws
-pub mod ValueRuleLaws
 pub mod ValuePass
 pub mod ValueMeaning
 pub mod RowPass

@@ -1,24 +1,25 @@
--- The pass over all tables: a law for each `return` of the row check. Assumes nothing.
+-- The pass over all tables: what the row check shows, given what its parts do. Assumes nothing.
 use Prim.Native.Nat.{ℕ, zero, suc, ◌+◌, ◌<◌, ◌≤◌}
-use mathlib.Core.Path.{◌≡◌, refl, sym, ap, ◌∙◌}
-use mathlib.Core.Bool.{true, not}
+use mathlib.Core.Path.{◌≡◌, refl, sym, ap}
+use mathlib.Core.Bool.{true, false, not}
 use mathlib.Core.List.{List}
-use mathlib.Core.Option.{Option, none, some}
+use mathlib.Core.Option.{none, some}
 use native.Mathlib.Omega.{arith}
 use borrow.Author.Tests.{le-leb, lt-leb}
 use Rattle.lists.specs.First.{expect, ◌▷◌, first_fault}
 use native.Mathlib.Nat.{le_refl}
-use Rattle.lists.proofs.EveryLaws.{none_bad, position_le}
+use Rattle.lists.proofs.EveryLaws.{none_bad, some_found, none_found}
 use Rattle.lists.proofs.FirstLaws.{goes_on, stays, kept, each_none}
 use Rattle.tables.specs.Layout.{sets, selections, values}
 use Rattle.tables.specs.Image.{count_at}
-use Rattle.tables.specs.Header.{Refusal, bad_word, header_shows, header_fault}
+use Rattle.tables.specs.Header.{Refusal, header_fault}
 use Rattle.tables.specs.Numbering.{set_start, next_set, next_value}
-use Rattle.rows.specs.RowFault.{StandsAt, bad_row, rows_show, first_bad, broken_row, left_over, unclaimed_fault, row_fault, image_fault, row_rule, GoodBelow}
-use Rattle.tables.specs.declared.header.Header.{Header}
-use Rattle.tables.specs.declared.header.Header.TheVariants.{Wrong}
-use Rattle.rows.specs.declared.Rows.{Rows}
-use Rattle.rows.specs.declared.Rows.TheVariants.{Good, BadHeader, BadRow}
+use Rattle.rows.specs.RowFault.{bad_row, rows_show, error_shows, first_bad, broken_row, left_over, unclaimed_fault, row_fault, row_rule, GoodBelow}
+use Rattle.std.specs.Prelude.{Option, Some, None, Result, IsErrAnd}
+use Rattle.std.proofs.lemmas.Result.{err_from_is_err_and}
+use Rattle.lists.specs.Every.{position, found}
+use Rattle.rows.specs.declared.BadImage.{BadImage}
+use Rattle.rows.proofs.RowLaws.{stops_at}
 use Rattle.rows.proofs.PlainPromise.{rows_good}
 
 -- tables without fault are good, and good ones have none
@@ -47,28 +48,54 @@ module _ (image : List ℕ) (n : ℕ) {row : ℕ} (this : row ≡ first_bad imag
   unfolding broken_row expect
   broken h = rw (← this, lt-leb _ _ h)
 
-  -- one table more
-  pub passes : first_fault (broken_row image) n ≡ none → count_at image n ≤ row → first_fault (broken_row image) (n + 1) ≡ none
-  passes before h = goes_on (broken_row image) n before (whole h)
-
-  -- its first bad row is the fault, of as many tables as follow
-  pub breaks_among : (m : ℕ) → first_fault (broken_row image) n ≡ none → n < m → row < count_at image n → some (bad_row n row) ≡ first_fault (broken_row image) m
-  breaks_among m before less h = sym (stays (broken_row image) n m (bad_row n row) before less (broken h))
-
+  -- its first bad row is the fault
   pub breaks : first_fault (broken_row image) n ≡ none → n < 9 → row < count_at image n → some (bad_row n row) ≡ row_fault image
   unfolding row_fault ◌▷◌
-  breaks before less h = rw (← breaks_among 9 before less h)
+  breaks before less h = rw (stays (broken_row image) n 9 (bad_row n row) before less (broken h))
+
+-- a table whose rows are judged one after the other: a row that is bad after good ones is shown, and none where all are good
+module _ (image : List ℕ) (t : ℕ) where
+  pub bad_row_shown : (r : ℕ) → r < count_at image t → ((k : ℕ) → k < r → row_rule image t k ≡ true) → row_rule image t r ≡ false → some (bad_row t r) ≡ broken_row image t
+  bad_row_shown r less before here = sym (broken image t (stops_at image t r less before here) less)
+
+  pub no_row_shown : ((k : ℕ) → k < count_at image t → row_rule image t k ≡ true) → none ≡ broken_row image t
+  unfolding first_bad
+  no_row_shown all = sym (whole image t (sym (none_bad (row_rule image t) (count_at image t) all)) (le_refl _))
+
+-- what a search for the first bad row of a table gives
+module _ (image : List ℕ) (n : ℕ) {rows : ℕ} (all : rows ≡ count_at image n) where
+  -- the search among them for one that breaks the rule
+  abbrev searched : Option ℕ
+  searched = found rows (position rows (λ r. not (row_rule image n r)))
+
+  is_first : position rows (λ r. not (row_rule image n r)) ≡ first_bad image n
+  unfolding first_bad
+  is_first = rw all
+
+  pub no_row_found : None ≡ searched → none ≡ broken_row image n
+  no_row_found e = let none_at = none_found e in sym (whole image n is_first (omega arith))
+
+  pub row_found : {row : ℕ} → Some row ≡ searched → some (bad_row n row) ≡ broken_row image n
+  row_found e = let at = some_found e in rw (← at.0) (sym (broken image n is_first (omega (arith, at.1))))
 
 -- one table more
 pub good_more : (image : List ℕ) (n : ℕ) → GoodBelow image n → {row : ℕ} → row ≡ first_bad image n → count_at image n ≤ row → GoodBelow image (n + 1)
-good_more image n below this h = passed_good image (n + 1) below.header (passes image n this (good_tables image n below) h)
+good_more image n below this h = passed_good image (n + 1) below.header (goes_on (broken_row image) n (good_tables image n below) (whole image n this h))
 
--- an answer that is not good after the first tables is that of all
-pub lower_breaks : (image : List ℕ) (m : ℕ) (r : Rows) → m ≤ 9 → (r ≡ Good → ⊥) → rows_show r ≡ first_fault (broken_row image) m → rows_show r ≡ row_fault image
+-- ---- what a check shows that ends with the refusal of a part
+
+-- a `?` passes it on as it is
+pub passed_on : {T : Type 0} (r : Result T BadImage) (bad : BadImage) → IsErrAnd r (λ e. e ≡ bad) → rows_show r ≡ some (error_shows bad)
+passed_on r bad given = let p = err_from_is_err_and r given in rw p.1 (ap (λ e. some (error_shows e)) p.2)
+
+-- the first table with a fault
+pub table_breaks : (image : List ℕ) (m : ℕ) {x : Refusal} → first_fault (broken_row image) m ≡ none → m < 9 → some x ≡ broken_row image m → some x ≡ row_fault image
 unfolding row_fault ◌▷◌
-lower_breaks image m Good less bad this = absurd (bad refl)
-lower_breaks image m (BadHeader word) less bad this = rw (kept (broken_row image) m 9 (bad_word word) (sym this) less)
-lower_breaks image m (BadRow table row) less bad this = rw (kept (broken_row image) m 9 (bad_row table row) (sym this) less)
+table_breaks image m {x} before less this = rw (stays (broken_row image) m 9 x before less (sym this))
+
+pub lower_breaks : (image : List ℕ) (m : ℕ) {x : Refusal} → m ≤ 9 → some x ≡ first_fault (broken_row image) m → some x ≡ row_fault image
+unfolding row_fault ◌▷◌
+lower_breaks image m {x} less this = rw (kept (broken_row image) m 9 x (sym this) less)
 
 -- no table is broken: what is left unclaimed decides
 pub all_whole : (image : List ℕ) {claimed-sets claimed-values : ℕ} → first_fault (broken_row image) 9 ≡ none
@@ -76,18 +103,6 @@ pub all_whole : (image : List ℕ) {claimed-sets claimed-values : ℕ} → first
     → unclaimed_fault image claimed-sets claimed-values ≡ row_fault image
 unfolding row_fault ◌▷◌
 all_whole image before s v = rw (before, s, v)
-
--- a pass that came to the end leaves the number after all rows
-pub leaves_all : (image : List ℕ) (t : ℕ) (next : ℕ → ℕ) {row number : ℕ} → StandsAt image t next row number → count_at image t ≤ row → number ≡ next (count_at image t)
-unfolding first_bad
-leaves_all image t next {row} stands past =
-    let at_most = position_le (count_at image t) (λ r. not (row_rule image t r)) in
-    let all : row ≡ count_at image t = omega (arith, stands.at_first_bad) in
-    stands.leaves ∙ ap next all
-
--- a good answer shows no fault
-pub shows_no_fault : (r : Rows) {fault : Option Refusal} → r ≡ Good → rows_show r ≡ fault → fault ≡ none
-shows_no_fault r good this = let shown : rows_show r ≡ none = rw good in sym this ∙ shown
 
 -- ---- what is left unclaimed
 
@@ -110,17 +125,6 @@ module _ (image : List ℕ) (claimed-sets claimed-values : ℕ) where
       → count_at image values ≤ claimed-values → none ≡ unclaimed_fault image claimed-sets claimed-values
   unfolding unclaimed_fault left_over expect ◌▷◌
   nothing_left s t h = rw (le-leb _ _ s, le-leb _ _ t, le-leb _ _ h)
-
--- ---- the whole
-
-module _ (image : List ℕ) where
-  pub header_refused : {h : Header} {word : ℕ} → header_shows h ≡ header_fault image → h ≡ Wrong word → some (bad_word word) ≡ image_fault image
-  unfolding image_fault ◌▷◌
-  header_refused this wrong = let shown = rw wrong at this in rw (← shown)
-
-  pub rows_decide : header_fault image ≡ none → {fault : Option Refusal} → fault ≡ row_fault image → fault ≡ image_fault image
-  unfolding image_fault ◌▷◌
-  rows_decide good this = rw good this
 
 -- a good header, and no table looked at yet
 pub none_yet : (image : List ℕ) → header_fault image ≡ none → GoodBelow image 0

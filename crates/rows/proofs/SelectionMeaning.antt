@@ -76,12 +76,6 @@ module _ (image : List ℕ) (row : Selection) where
       last : (k : ℕ) → k ≤ 2 → (k ≡ 0 → ⊥) → (k ≡ 1 → ⊥) → k ≡ 2
       last k few h0 h1 = omega arith
 
-  no_range : has_no_field_words row ≡ true → (row.arguments.first ≡ 0) × (row.arguments.count ≡ 0)
-  unfolding has_no_field_words
-  no_range e =
-      let words = all_three (eqb row.response 0 && eqb row.name 0 && eqb row.reference 0) (eqb row.arguments.first 0) (eqb row.arguments.count 0) e in
-      (eqb-true _ _ words.1, eqb-true _ _ words.2)
-
   spread_to : good_by_itself image row ≡ true → row.kind ≡ spread → row.target < count_at image fragments
   unfolding good_spread
   spread_to e k = ltb-true _ _ (first_of (is_row image fragments row.target) (has_no_field_words row) (spread_rule e k))

@@ -5,28 +5,31 @@ use mathlib.Core.Bool.{Bool, true, false, cond}
 use mathlib.Core.List.{List}
 use native.Mathlib.Nat.{le_refl}
 use native.Mathlib.Numerals.{add-one}
-use native.Mathlib.Decide.{dec_le}
 use native.Mathlib.Omega.{arith}
 use borrow.Author.Count.{below_none, below_more}
-use Rattle.lists.proofs.EveryLaws.{first_bad_lem, none_bad}
 use Rattle.tables.specs.Layout.{NONE, operations, fragments, sets, selections}
 use Rattle.tables.specs.Image.{count_at}
 use Rattle.tables.specs.Columns.{set_selections, selection_at}
 use Rattle.tables.specs.declared.Range.{Range}
 use Rattle.tables.specs.declared.columns.Selection.{Selection}
-use Rattle.tables.specs.Numbering.{set_end, set_start, owns_set, next_set}
+use Rattle.tables.specs.Numbering.{set_end, set_start, owns_set}
 use Rattle.rows.specs.Selections.{selection_rule, good_selection}
-use Rattle.rows.specs.SelectionPass.{GoodTo, Passing, Passed}
-use Rattle.rows.specs.RowFault.{row_rule, first_bad, GoodBelow, StandsAt}
+use Rattle.rows.specs.SelectionPass.{GoodTo, Passing, Passed, StoppedAt}
+use Rattle.std.specs.Prelude.{Result, Ok, Err}
+use Rattle.rows.specs.RowFault.{error_shows, rows_show, row_rule, broken_row, GoodBelow}
+use Rattle.rows.specs.declared.BadImage.{BadImage}
+use Rattle.rows.specs.declared.BadImage.TheVariants.{Row}
+use mathlib.Core.Option.{some}
 use Rattle.tables.proofs.Tidy.{good_header}
 use Rattle.tables.proofs.Counts.{limit_of, few_rows}
-use Rattle.rows.proofs.HomeLaws.{set_inside, start_inside, set_end_lem, least_in_set, least_in_none}
+use Rattle.rows.proofs.RowPass.{bad_row_shown, no_row_shown}
+use Rattle.rows.proofs.HomeLaws.{set_first, set_inside, start_inside, least_in_set, least_in_none}
 use Rattle.tables.proofs.ColumnLaws.{next_set_first, next_set_more, next_set_most}
 
 -- the loop over the rows of one set
 module _ (image : List ℕ) (row next end least : ℕ) (p : Passing image row next end least) where
-  pub number_fits : row < end → next < NONE
-  number_fits more = let taken = p.so_far.leaves in let few = p.few in omega (arith, next_set_most image row)
+  pub number_fits : next ≤ NONE
+  number_fits = let taken = p.so_far.leaves in let few = p.few in let here = p.before_end in omega (arith, next_set_most image row)
 
   -- the row at hand, as the code reads it, and its rule, as the running numbers say it
   module _ (within : row < end) {selection : Selection} (read : selection ≡ selection_at image row) {b : Bool} (rule : b ≡ selection_rule image selection next least) where
@@ -36,7 +39,7 @@ module _ (image : List ℕ) (row next end least : ℕ) (p : Passing image row ne
         rw (← p.so_far.leaves, p.one_home row (le_refl row) within)
         (sym (rule ∙ ap (λ (s : Selection). selection_rule image s next least) read))
 
-    pub takes_row : b ≡ true → {more : ℕ} → more ≡ next + cond (owns_set selection) 1 0 → Passing image (row + 1) more end least
+    pub takes_row : b ≡ true → {taken : ℕ} → taken ≡ cond (owns_set selection) 1 0 → Passing image (row + 1) (next + taken) end least
     takes_row good taken = record {
       so_far = record {
         good = below_more _ row p.so_far.good (judged ∙ good);
@@ -47,30 +50,21 @@ module _ (image : List ℕ) (row next end least : ℕ) (p : Passing image row ne
       few = p.few;
     }
 
-    pub stops_at : b ≡ false → Passed image end row next
-    stops_at bad = record { so_far = p.so_far; before_end = p.before_end; stops = λ _. judged ∙ bad }
+    pub stops_at : b ≡ false → StoppedAt image end (Row selections row)
+    stops_at bad = record { row = row; before_end = within; good = p.so_far.good; stops = judged ∙ bad; shown = refl }
 
-  pub passes_all : end ≤ row → Passed image end row next
-  passes_all all = record { so_far = p.so_far; before_end = p.before_end; stops = λ within. absurd (omega arith) }
+-- a row that the pass stopped at is the one that is shown
+pub stop_shown : (image : List ℕ) {end : ℕ} {bad : BadImage} → StoppedAt image end bad → end ≤ count_at image selections → some (error_shows bad) ≡ broken_row image selections
+unfolding row_rule
+stop_shown image at within =
+    let less : at.row < count_at image selections = omega (arith, at.before_end) in
+    rw at.shown (bad_row_shown image selections at.row less at.good at.stops)
 
--- how the pass ends
-module _ (image : List ℕ) {end row next : ℕ} (p : Passed image end row next) where
-  pub stands_at_bad : end ≤ count_at image selections → row < end → StandsAt image selections (next_set image) row next
-  unfolding first_bad row_rule
-  stands_at_bad within bad = record {
-    at_first_bad = sym (first_bad_lem (good_selection image) _ row (omega arith) p.so_far.good (p.stops bad));
-    leaves = p.so_far.leaves;
-  }
-
-  pub finished : end ≡ count_at image selections → StandsAt image selections (next_set image) row next
-  unfolding first_bad row_rule
-  finished all =
-      elim (dec_le end row) [
-        | yes past ↦
-            let last : row ≡ count_at image selections = omega (arith, p.before_end) in
-            record { at_first_bad = last ∙ sym (none_bad (good_selection image) _ (λ k l. p.so_far.good k (omega arith))); leaves = p.so_far.leaves }
-        | no bad ↦ stands_at_bad (omega arith) (omega arith)
-      ]
+-- what the rows after the last set come to
+pub finished : (image : List ℕ) {end : ℕ} → end ≡ count_at image selections → (r : Result ℕ BadImage) → Passed image end r → rows_show r ≡ broken_row image selections
+unfolding row_rule
+finished image all (Ok next) so_far = no_row_shown image selections (λ r less. so_far.good r (omega arith))
+finished image all (Err bad) at = stop_shown image at (omega arith)
 
 -- the loop over the sets, at a set: the rows before its start are passed
 pub record AtSet (image : List ℕ) (s row next : ℕ) : Type 0 where
@@ -103,24 +97,24 @@ module _ (image : List ℕ) (good : GoodBelow image 5) where
     pub end_fits : rows.first + rows.count ≤ 8192
     end_fits = omega (arith, to_end, set_inside image good s here, few selections (omega arith))
 
-    pub enters_set : {row next : ℕ} → AtSet image s row next → Passing image row next (rows.first + rows.count) (s + 1)
+    pub enters_set : {row next : ℕ} → AtSet image s row next → Passing image rows.first next (rows.first + rows.count) (s + 1)
     enters_set at =
-        let start = at.from in
+        let start : rows.first ≡ set_start image s = rw read (set_first image good s here) in
         let end = to_end in
+        let here_at : rows.first ≡ _ = start ∙ sym at.from in
         record {
-          so_far = at.so_far;
-          before_end = omega (arith, set_end_lem image good s here);
+          so_far = rw here_at at.so_far;
+          before_end = omega arith;
           one_home = λ r above below. least_in_set image good s r here (omega arith) (omega arith);
           few = few_numbers _ (omega (arith, set_inside image good s here));
         }
 
-    pub stopped : {row next : ℕ} → Passed image (rows.first + rows.count) row next → row < rows.first + rows.count
-        → StandsAt image selections (next_set image) row next
-    stopped p bad = stands_at_bad image p (omega (arith, to_end, set_inside image good s here)) bad
+    pub stopped : {bad : BadImage} → StoppedAt image (rows.first + rows.count) bad → some (error_shows bad) ≡ broken_row image selections
+    stopped at = stop_shown image at (omega (arith, to_end, set_inside image good s here))
 
-    pub leaves_set : {row next : ℕ} → Passed image (rows.first + rows.count) row next → rows.first + rows.count ≤ row → AtSet image (s + 1) row next
+    pub leaves_set : {next : ℕ} → GoodTo image (rows.first + rows.count) next → AtSet image (s + 1) (rows.first + rows.count) next
     unfolding set_start
-    leaves_set p all = record { within = omega arith; from = rw add-one (omega (arith, to_end, p.before_end)); so_far = p.so_far }
+    leaves_set so_far = record { within = omega arith; from = rw add-one to_end; so_far = so_far }
 
   -- after the last set
   pub enters_none : {s row next : ℕ} → AtSet image s row next → count_at image sets ≤ s → {end : ℕ} → end ≡ count_at image selections

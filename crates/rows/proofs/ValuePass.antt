@@ -9,12 +9,13 @@ use native.Mathlib.Omega.{arith}
 use native.Mathlib.Decide.{dec_le, dec_lt}
 use borrow.Author.Count.{below_none, below_more}
 use borrow.Author.Tests.{le-ltb}
-use Rattle.lists.proofs.EveryLaws.{first_bad_lem, none_bad}
 use Rattle.tables.specs.Layout.{NONE, arguments, values}
 use Rattle.tables.specs.Image.{count_at}
 use Rattle.tables.specs.Numbering.{claimed, next_value, level}
 use Rattle.rows.specs.Values.{good_claim, value_rule, good_value}
-use Rattle.rows.specs.RowFault.{row_rule, first_bad, StandsAt}
+use Rattle.rows.specs.RowFault.{bad_row, row_rule, broken_row}
+use mathlib.Core.Option.{none, some}
+use Rattle.rows.proofs.RowPass.{bad_row_shown, no_row_shown}
 use Rattle.rows.proofs.LevelLaws.{GoodBefore, next_start, next_more, next_grows, argument_level, claimed_before, next_fits, member_level}
 
 -- The levels of the claimed rows from v on: those before `end` have the level at hand, the others the next. `bound` is v where
@@ -119,12 +120,10 @@ module _ (image : List ℕ) where
             levels = advances row l all;
           }
 
-    pub stops : row < count_at image values → good_value image row ≡ false → StandsAt image values (next_value image) row unclaimed
-    unfolding first_bad row_rule
-    stops less bad = record { at_first_bad = sym (first_bad_lem (good_value image) _ row less p.good bad); leaves = p.next }
+    pub stops : row < count_at image values → good_value image row ≡ false → some (bad_row values row) ≡ broken_row image values
+    unfolding row_rule
+    stops less bad = bad_row_shown image values row less p.good bad
 
-  pub ends : {row unclaimed at_level end : ℕ} → Passed image row unclaimed at_level end → count_at image values ≤ row → StandsAt image values (next_value image) row unclaimed
-  unfolding first_bad row_rule
-  ends {row} p past =
-      let all : row ≡ count_at image values = omega arith in
-      record { at_first_bad = all ∙ sym (none_bad (good_value image) _ (λ k l. p.good k (omega arith))); leaves = p.next }
+  pub ends : {row unclaimed at_level end : ℕ} → Passed image row unclaimed at_level end → count_at image values ≤ row → none ≡ broken_row image values
+  unfolding row_rule
+  ends p past = no_row_shown image values (λ k less. p.good k (omega arith))

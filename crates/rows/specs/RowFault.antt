@@ -1,6 +1,6 @@
 -- Kind 4: the first row rule that is broken, and what is left unclaimed (the table of kinds in README).
 -- Assumes nothing.
-use Rattle.std.specs.Prelude.{ℕ, ◌<◌, ◌≡◌, Bool, true, not, List, [], ◌∷◌, leb, length, get_or}
+use Rattle.std.specs.Prelude.{ℕ, ◌<◌, ◌≡◌, Bool, true, not, List, [], ◌∷◌, leb, length, get_or, Result, Ok, Err}
 use Rattle.std.proofs.Math.Option.{Option, none, some}
 use Rattle.lists.specs.Every.{position}
 use Rattle.lists.specs.First.{expect, ◌▷◌, first_fault}
@@ -11,17 +11,20 @@ use Rattle.rows.specs.Rows.{good_type, good_reference, good_operation, good_frag
 use Rattle.tables.specs.Numbering.{set_start, next_set, next_value}
 use Rattle.rows.specs.Selections.{good_selection}
 use Rattle.rows.specs.Values.{good_value}
-use Rattle.rows.specs.declared.Rows.{Rows}
-use Rattle.rows.specs.declared.Rows.TheVariants.{Good, BadHeader, BadRow}
+use Rattle.rows.specs.declared.BadImage.{BadImage}
+use Rattle.rows.specs.declared.BadImage.TheVariants.{Header, Row}
 
 abbrev pub bad_row : ℕ → ℕ → Refusal
 bad_row table row = record { kind = 4; a = table; b = row }
 
--- the answer of the row check, by its number
-abbrev pub rows_show : Rows → Option Refusal
-rows_show Good = none
-rows_show (BadHeader word) = some (bad_word word)
-rows_show (BadRow table row) = some (bad_row table row)
+abbrev pub error_shows : BadImage → Refusal
+error_shows (Header bad) = bad_word bad.word
+error_shows (Row table row) = bad_row table row
+
+-- the answer of the row check, or of a part of it, whatever that gives where all is good
+abbrev pub rows_show : {A : Type 0} → Result A BadImage → Option Refusal
+rows_show (Ok x) = none
+rows_show (Err bad) = some (error_shows bad)
 
 module _ (image : List ℕ) where
   -- a rule for the rows of each table, in the order of the tables
@@ -65,11 +68,6 @@ module _ (image : List ℕ) where
 pub record GoodBelow (image : List ℕ) (n : ℕ) : Type 0 where
   pub header : header_fault image ≡ none
   pub rows : (t : ℕ) → t < n → (r : ℕ) → r < count_at image t → row_rule image t r ≡ true
-
--- where the pass over the selections, or over the values, stands: the first bad row, and the next number that its rows leave
-pub record StandsAt (image : List ℕ) (t : ℕ) (next : ℕ → ℕ) (row number : ℕ) : Type 0 where
-  pub at_first_bad : row ≡ first_bad image t
-  pub leaves : number ≡ next row
 
 -- the tables whose rows are judged one by one: all but the selections and the values
 pub record IsPlain (t : ℕ) : Type 0 where

@@ -1,10 +1,12 @@
 -- The pass over the selections: what its loop over the rows of one set takes for granted, and what it leaves.
 -- Assumes nothing.
-use Rattle.std.specs.Prelude.{ℕ, ◌+◌, ◌<◌, ◌≤◌, ◌≡◌, true, false, List}
-use Rattle.tables.specs.Layout.{NONE, operations, fragments}
+use Rattle.std.specs.Prelude.{ℕ, ◌+◌, ◌<◌, ◌≤◌, ◌≡◌, true, false, List, Result, Ok, Err}
+use Rattle.tables.specs.Layout.{NONE, operations, fragments, selections}
 use Rattle.tables.specs.Image.{count_at}
 use Rattle.tables.specs.Numbering.{next_set}
 use Rattle.rows.specs.Selections.{least_owned, good_selection}
+use Rattle.rows.specs.declared.BadImage.{BadImage}
+use Rattle.rows.specs.declared.BadImage.TheVariants.{Row}
 
 -- the rows before this one are good, and leave this set number
 pub record GoodTo (image : List ℕ) (row next : ℕ) : Type 0 where
@@ -18,8 +20,15 @@ pub record Passing (image : List ℕ) (row next end least : ℕ) : Type 0 where
   pub one_home : (r : ℕ) → row ≤ r → r < end → least_owned image r ≡ least
   pub few : count_at image operations + count_at image fragments + end ≤ NONE
 
--- all rows to the end are good, or the pass stopped at the first that is not
-pub record Passed (image : List ℕ) (end row next : ℕ) : Type 0 where
-  pub so_far : GoodTo image row next
-  pub before_end : row ≤ end
-  pub stops : row < end → good_selection image row ≡ false
+-- the pass stopped at the first row that is not good, and says which
+pub record StoppedAt (image : List ℕ) (end : ℕ) (bad : BadImage) : Type 0 where
+  pub row : ℕ
+  pub before_end : row < end
+  pub good : (r : ℕ) → r < row → good_selection image r ≡ true
+  pub stops : good_selection image row ≡ false
+  pub shown : bad ≡ Row selections row
+
+-- all rows to the end are good, and leave this set number; or the pass stopped
+abbrev pub Passed : (image : List ℕ) (end : ℕ) → Result ℕ BadImage → Type 0
+Passed image end (Ok next) = GoodTo image end next
+Passed image end (Err bad) = StoppedAt image end bad

@@ -1,67 +1,55 @@
 // The tables whose rows are judged one by one: types, type references, operations, fragments, sets, arguments, variables.
-// Each rule's contract is the definition of its name in specs/Rows, for every image and row.
+// Each rule's contract is the definition of its name in specs/Rows, for every image and row, and its proof opens those that the
+// attribute below names.
+#![tactic(auto, unfolding(crate::specs::Rows::ascends, crate::specs::Rows::good_type, crate::specs::Rows::good_child, crate::specs::Rows::good_reference, crate::specs::Rows::good_operation, crate::specs::Rows::good_fragment, crate::specs::Rows::good_parent, crate::specs::Rows::good_set, crate::specs::Rows::good_argument, crate::specs::Rows::good_variable,))]
+
 ghost use Rattle.std.specs.Prelude.{◌≡◌};
 ghost use Rattle.rows.specs.Rows.{good_type, good_child, good_reference, good_operation, good_fragment, good_parent, good_set, good_argument, good_variable};
 ghost use Rattle.tables.specs.Numbering.{set_start};
-ghost use Rattle.rows.specs.RowFault.{row_rule, first_bad, IsPlain};
+ghost use Rattle.rows.specs.RowFault.{rows_show, row_rule, broken_row, IsPlain};
 
+use crate::BadImage;
 use tables::columns::*;
 use tables::{
-    ARGUMENTS, REFERENCES, SELECTIONS, SETS, TYPES, VALUES, VARIABLES, count, lies_within,
+    ARGUMENTS, FRAGMENTS, OPERATIONS, REFERENCES, SELECTIONS, SETS, TYPES, VALUES, VARIABLES, count,
 };
 
 fn is_type_good(image: &[u32], row: u32) -> bool
     ensures { result ≡ good_type image.now row }
 {
-    if 5 < type_kind(image, row) {
-        return false;
-    }
-    if row == 0 {
-        return true;
-    }
-    type_name(image, row - 1) < type_name(image, row)
+    type_kind_of(type_kind(image, row)).is_some()
+        && (row == 0 || type_name(image, row - 1) < type_name(image, row))
 }
 
-fn is_child_good(image: &[u32], row: u32) -> bool
-    ensures { result ≡ good_child image.now row }
-{
-    let child = reference_child(image, row);
-    if 2 <= reference_kind(image, row) {
-        return child < row;
-    }
-    child < count(image, TYPES)
-}
-
+// Children of names are types, those of lists are earlier references.
 fn is_reference_good(image: &[u32], row: u32) -> bool
     ensures { result ≡ good_reference image.now row }
 {
-    if 3 < reference_kind(image, row) {
-        return false;
+    let child = reference_child(image, row);
+    match reference_kind_of(reference_kind(image, row)) {
+        Some(ReferenceKind::Named | ReferenceKind::NonNullNamed) => child < count(image, TYPES),
+        Some(ReferenceKind::List | ReferenceKind::NonNullList) => child < row,
+        None => false,
     }
-    is_child_good(image, row)
 }
 
 fn is_operation_good(image: &[u32], row: u32) -> bool
     ensures { result ≡ good_operation image.now row }
 {
-    if lies_within(operation_variables(image, row), count(image, VARIABLES)) {
-        if lies_within(operation_directives(image, row), count(image, ARGUMENTS)) {
-            return row < count(image, SETS);
-        }
-    }
-    false
+    operation_variables(image, row).lies_within(count(image, VARIABLES))
+        && operation_directives(image, row).lies_within(count(image, ARGUMENTS))
+        && row < count(image, SETS)
 }
 
 fn is_fragment_good(image: &[u32], row: u32) -> bool
     ensures { result ≡ good_fragment image.now row }
 {
-    if lies_within(fragment_directives(image, row), count(image, ARGUMENTS)) {
-        return fragment_set(image, row) < count(image, SETS);
-    }
-    false
+    fragment_directives(image, row).lies_within(count(image, ARGUMENTS))
+        && fragment_set(image, row) < count(image, SETS)
 }
 
 // Where the selections of a set must begin: where those of the set before end.
+#[tactic(auto, using(crate::proofs::RowLaws::start_first, crate::proofs::RowLaws::start_next))]
 pub fn set_start(image: &[u32], set: u32) -> u64
     ensures { result ≡ set_start image.now set }
 {
@@ -69,80 +57,63 @@ pub fn set_start(image: &[u32], set: u32) -> u64
         return 0;
     }
     let before = set_selections(image, set - 1);
-    (before.first as u64) + (before.count as u64)
+    u64::from(before.first) + u64::from(before.count)
 }
 
 fn is_parent_good(image: &[u32], set: u32) -> bool
     ensures { result ≡ good_parent image.now set }
 {
     let parent = set_parent(image, set);
-    if parent < count(image, TYPES) {
-        return is_composite(type_kind(image, parent));
-    }
-    false
+    parent < count(image, TYPES) && is_composite(type_kind(image, parent))
 }
 
 fn is_set_good(image: &[u32], set: u32) -> bool
     ensures { result ≡ good_set image.now set }
 {
-    if is_parent_good(image, set) {
-        let selections = set_selections(image, set);
-        if (selections.first as u64) == set_start(image, set) {
-            return lies_within(selections, count(image, SELECTIONS));
-        }
-    }
-    false
+    let selections = set_selections(image, set);
+    is_parent_good(image, set)
+        && u64::from(selections.first) == set_start(image, set)
+        && selections.lies_within(count(image, SELECTIONS))
 }
 
 fn is_argument_good(image: &[u32], row: u32) -> bool
     ensures { result ≡ good_argument image.now row }
 {
-    if argument_type(image, row) < count(image, REFERENCES) {
-        if argument_default(image, row) <= 1 {
-            return row < count(image, VALUES);
-        }
-    }
-    false
+    argument_type(image, row) < count(image, REFERENCES)
+        && argument_default(image, row) <= 1
+        && row < count(image, VALUES)
 }
 
 fn is_variable_good(image: &[u32], row: u32) -> bool
     ensures { result ≡ good_variable image.now row }
 {
-    if variable_type(image, row) < count(image, REFERENCES) {
-        return variable_default(image, row) <= 1;
-    }
-    false
+    variable_type(image, row) < count(image, REFERENCES) && variable_default(image, row) <= 1
 }
 
 // A row of a table whose rows are judged one by one.
+#[tactic(auto, unfolding(crate::specs::RowFault::row_rule))]
 fn is_row_good(image: &[u32], table: u8, row: u32) -> bool
     requires { IsPlain table }
     ensures { result ≡ row_rule image.now table row }
 {
     match table {
-        0 => is_type_good(image, row),
-        1 => is_reference_good(image, row),
-        2 => is_operation_good(image, row),
-        3 => is_fragment_good(image, row),
-        4 => is_set_good(image, row),
-        6 => is_argument_good(image, row),
+        TYPES => is_type_good(image, row),
+        REFERENCES => is_reference_good(image, row),
+        OPERATIONS => is_operation_good(image, row),
+        FRAGMENTS => is_fragment_good(image, row),
+        SETS => is_set_good(image, row),
+        ARGUMENTS => is_argument_good(image, row),
         _ => is_variable_good(image, row),
     }
 }
 
-// The first row of such a table that breaks its rule; the number of rows where none does.
-pub(crate) fn first_bad(image: &[u32], table: u8) -> u32
+// The rows of such a table: good, or the first that breaks its rule.
+pub(crate) fn check_plain(image: &[u32], table: u8) -> Result<(), BadImage>
     requires { IsPlain table }
-    ensures { result ≡ first_bad image.now table }
+    ensures { rows_show result ≡ broken_row image.now table }
 {
-    let rows = count(image, table);
-    let mut row: u32 = 0;
-    while row < rows {
-        if is_row_good(image, table, row) {
-            row += 1;
-        } else {
-            return row;
-        }
+    match (0..count(image, table)).find(|row| !is_row_good(image, table, *row)) {
+        Some(row) => Err(BadImage::Row { table, row }),
+        None => Ok(()),
     }
-    rows
 }

@@ -69,7 +69,7 @@ module _ {image s : List ℕ} {arena : Arena} {g : Segment} {isShape : Bool} {a 
         let u = c.upto x l is G F low begins in
         u.same op y ∙ rw (u.found.here (omega arith), row)
 
-    pub comparing_next : kind_of_clash ((pass_of image isShape).clash a b) ≡ 0 → {next : ℕ} → next ≡ followed s arena g.kind place end
+    pub comparing_next : kind_of_clash ((pass_of image isShape).clash a b) ≡ 0 → {next : ℕ} → next ≡ followed s arena g.among place end
         → Comparing image s arena g isShape a from end next
     unfolding tell after
     comparing_next quiet {next} e = record {
@@ -79,7 +79,7 @@ module _ {image s : List ℕ} {arena : Arena} {g : Segment} {isShape : Bool} {a 
           let ahead : x.start ≤ place + 1 = omega (arith, u.low, u.found.ahead) in
           let near : place < x.end = omega arith in
           let here : belongs image s g (row_in s arena.store place) ≡ true = belongs_is G g place low_place near ∙ u.found.passes near in
-          let found-next : next ≡ member_place image s arena.store g (place + 1) x.end = e ∙ ap (followed s arena g.kind place) (sym is) ∙ F place low_place near here in
+          let found-next : next ≡ member_place image s arena.store g (place + 1) x.end = e ∙ ap (followed s arena g.among place) (sym is) ∙ F place low_place near here in
           record {
             at = place + 1;
             low = ahead;
@@ -115,7 +115,7 @@ part_head {image} {l = l} {part = part} G p =
     (filter_here G.list (member (document image) part.front) part.first p.from p.below p.heads)
 
 -- no field behind the first of the front segment, and none of the back segment
-pub alone_at : {image s : List ℕ} {arena : Arena} {part : Part} {second : ℕ} → second ≡ followed s arena part.front.kind part.first part.list.end → part.list.end ≤ second → part.list.end ≤ part.next
+pub alone_at : {image s : List ℕ} {arena : Arena} {part : Part} {second : ℕ} → second ≡ followed s arena part.front.among part.first part.list.end → part.list.end ≤ second → part.list.end ≤ part.next
     → (isShape : Bool) (l rows : List ℕ) → Grounded (document image) image s arena.store part.list l → Threaded image s arena isShape part.list → PartAt (document image) isShape s arena.store l part rows
     → rows ≡ row_in s arena.store part.first ∷ []
 unfolding filter
@@ -126,7 +126,7 @@ alone_at {image} {s} {arena} {part} {second} is over past isShape l rows G t p =
     part_head G p ∙ rw (found.over over, onward_over G.list part.next past)
 
 module _ {image s : List ℕ} {arena : Arena} {z z₁ : states.Walk} {part : Part} {isShape : Bool} {a : ℕ} (row : a ≡ row_in s arena.store part.first)
-    {second : ℕ} (second_is : second ≡ followed s arena part.front.kind part.first part.list.end)
+    {second : ℕ} (second_is : second ≡ followed s arena part.front.among part.first part.list.end)
     (front : ComparesSegment image s arena z part.list part.front isShape a second z₁) where
   module _ (l rows : List ℕ) (G : Grounded (document image) image s arena.store part.list l) (t : Threaded image s arena isShape part.list) (p : PartAt (document image) isShape s arena.store l part rows) where
     front_follows : Follows image s arena part.front part.list
@@ -168,16 +168,13 @@ module _ {image s : List ℕ} {arena : Arena} {z z₁ : states.Walk} {part : Par
         rw (in_order l rows G p y) (tells_stop s arena z.reply.operation z₁ _ _ (front_tells l rows G t p y h) stop);
   }
 
-  pub part_compared : z₁.reply.kind ≡ 0 → {z₂ : states.Walk} → ComparesSegment image s arena z₁ part.list part.back isShape a part.next z₂ → ComparesPart image s arena z part isShape z₂
-  part_compared go {z₂} back =
-      let is : z₁ ≡ z = front.same go in
-      let back' : ComparesSegment image s arena z part.list part.back isShape a part.next z₂ = rw is at back in
-      record {
-        same = back'.same;
-        known = back'.known;
-        operation = back'.operation;
-        tells = λ l rows G t p y h.
-            rw (in_order l rows G p y)
-            (tells_go s s arena z.reply.operation z z₂ _ _ (rw is at (front_tells l rows G t p y h)) (rw is at go)
-            (λ y' h'. back'.tells l G (back_follows l rows G t p) p.behind p.starts y' h'));
-      }
+  pub part_compared : z₁ ≡ z → {z₂ : states.Walk} → ComparesSegment image s arena z part.list part.back isShape a part.next z₂ → ComparesPart image s arena z part isShape z₂
+  part_compared is {z₂} back = record {
+    same = back.same;
+    known = back.known;
+    operation = back.operation;
+    tells = λ l rows G t p y h.
+        rw (in_order l rows G p y)
+        (tells_go s s arena z.reply.operation z z₂ _ _ (rw is at (front_tells l rows G t p y h)) (ap (λ r. r.kind) h.reply)
+        (λ y' h'. back.tells l G (back_follows l rows G t p) p.behind p.starts y' h'));
+  }

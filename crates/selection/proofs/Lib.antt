@@ -18,6 +18,7 @@
 --     LoopLaws      the loop of a pass, its turns and its ends
 --     ShapeLaws     the loop of the shape pass
 --     ParentLaws    the loop of the parent pass
+--     StepLaws      the loop of either
 --     OperationLaws the check of an operation
 --     ValidateLaws  its reply is the merge theory's
 pub mod RegionLaws
@@ -39,5 +40,6 @@ pub mod PassLaws
 pub mod LoopLaws
 pub mod ShapeLaws
 pub mod ParentLaws
+pub mod StepLaws
 pub mod OperationLaws
 pub mod ValidateLaws

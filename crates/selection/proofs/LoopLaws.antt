@@ -1,6 +1,6 @@
 -- The loop of a pass over the parts of a list, whichever the pass: its turns, and its ends. Assumes nothing.
-use mathlib.Core.Path.{◌≡◌, refl, ◌∙◌, subst}
-use mathlib.Core.Bool.{Bool, true, false}
+use mathlib.Core.Path.{◌≡◌, refl, sym, ap, ◌∙◌, subst}
+use mathlib.Core.Bool.{Bool, false}
 use mathlib.Core.List.{List, [], ◌∷◌}
 use Prim.Native.Nat.{ℕ, suc, ◌≤◌}
 use native.Mathlib.Omega.{arith}
@@ -8,14 +8,16 @@ use lib.ListN.{length}
 use Rattle.merge_theory.specs.Walk.{Pass}
 use Rattle.selection.specs.declared.arena.Arena.{Arena}
 use Rattle.selection.specs.declared.arena.Walk as states
+use Rattle.selection.specs.declared.arena.Reply.{Reply}
 use Rattle.lists.specs.declared.Span.{Span}
 use Rattle.selection.specs.declared.groups.Part.{Part}
 use Rattle.selection.specs.declared.walk.Met.{Met}
 use Rattle.selection.specs.Standing.{Stands}
 use Rattle.selection.specs.Grouping.{PartAt}
-use Rattle.selection.specs.Refining.{paid_for, document, pass_of, Ample, Site, Rows, Refines, walk_list, one_part, MeetsPart, WalksList}
+use Rattle.std.specs.Prelude.{Some, is_some}
+use Rattle.selection.specs.Refining.{goes_deeper, list_of, span_in, paid_for, document, pass_of, Ample, Site, Rows, Refines, walk_list, one_part, MeetsPart, WalksList}
 use Rattle.selection.proofs.StandLaws.{stands_kept}
-use Rattle.selection.proofs.RefineLaws.{kept_trans, kept_none, by}
+use Rattle.selection.proofs.RefineLaws.{kept_trans, kept_none, by, refines_stopped}
 use Rattle.selection.proofs.PassLaws.{walk_rest, Progress, progress_turn, progress_stop, progress_end, progress_first}
 
 -- the walk of a list, and of a part, for an operation
@@ -42,7 +44,7 @@ pub record Stepped (image : List ℕ) (arena : Arena) (work : ℕ) (s s' : List 
 module _ {image : List ℕ} {arena : Arena} {work : ℕ} {s s₁ : List ℕ} {z : states.Walk} {part : Part} {isShape : Bool} {m : Met} (long₁ : length s₁ ≡ length s)
     (met : MeetsPart image arena work s s₁ z part isShape m) where
   -- nothing is deeper
-  pub stepped_flat : (levels : ℕ) → m.deeper ≡ false → Stepped image arena work s s₁ z part isShape levels m.walk
+  pub stepped_flat : (levels : ℕ) → goes_deeper m ≡ false → Stepped image arena work s s₁ z part isShape levels m.walk
   stepped_flat levels flat = record {
     long = long₁;
     operation = met.operation;
@@ -51,14 +53,14 @@ module _ {image : List ℕ} {arena : Arena} {work : ℕ} {s s₁ : List ℕ} {z 
   }
 
   -- a list was entered, and walked
-  pub stepped_deeper : {levels : ℕ} {s' : List ℕ} {z' : states.Walk} → m.deeper ≡ true → WalksList image arena work s₁ s' m.walk m.list isShape levels z'
+  pub stepped_deeper : {x : Span} {levels : ℕ} {s' : List ℕ} {z' : states.Walk} → m.below ≡ Some x → WalksList image arena work s₁ s' m.walk x isShape levels z'
       → Stepped image arena work s s' z part isShape levels z'
-  stepped_deeper {levels} {s'} {z'} deeper walked = record {
+  stepped_deeper {x} {levels} {s'} {z'} is walked = record {
     long = walked.long ∙ long₁;
     operation = walked.operation ∙ met.operation;
     ample = walked.ample;
     refines = λ l rows site stands ordered listed p fields.
-        let e = (met.meets l rows site stands ordered listed p fields).entered deeper in
+        let e = (met.meets l rows site stands ordered listed p fields).entered (ap is_some is) in
         let r = walks e.list e.site e.stands e.ordered e.stored e.rows in
         record {
           tells = λ y h. e.same levels y h s' z' (r.tells (paid_for e.list y) (e.goes y h));
@@ -67,8 +69,8 @@ module _ {image : List ℕ} {arena : Arena} {work : ℕ} {s s₁ : List ℕ} {z 
         };
   }
     where
-      walks : WalksAs image arena work z.reply.operation s₁ s' m.walk m.list isShape levels z'
-      walks = subst (λ (op : ℕ). WalksAs image arena work op s₁ s' m.walk m.list isShape levels z') met.operation walked.walks
+      walks : WalksAs image arena work z.reply.operation s₁ s' m.walk (list_of m) isShape levels z'
+      walks = subst (λ (op : ℕ). WalksAs image arena work op s₁ s' m.walk (list_of m) isShape levels z') met.operation (rw (ap span_in is) walked.walks)
 
 pub stepped_as : {image : List ℕ} {arena : Arena} {work : ℕ} {s s' s'' : List ℕ} {z : states.Walk} {part : Part} {isShape : Bool} {levels : ℕ} {z' z'' : states.Walk} → s'' ≡ s' → z'' ≡ z'
     → Stepped image arena work s s' z part isShape levels z' → Stepped image arena work s s'' z part isShape levels z''
@@ -90,6 +92,16 @@ no_level image arena work s z x isShape level is ample = rw is (record {
   ample = λ _. ample;
   walks = λ l site stands ordered stored listed. record { tells = λ y h. tt; site = λ _. site; kept = kept_none s z z (omega arith) };
 })
+
+-- where the walk stopped, its state but for the reply does not matter
+pub walks_stopped : {image : List ℕ} {arena : Arena} {work : ℕ} {s s' : List ℕ} {z z' z'' : states.Walk} {x : Span} {isShape : Bool} {level : ℕ} → (z'.reply.kind ≡ 0 → ⊥) → z''.reply ≡ z'.reply
+    → z.known ≤ z''.known → WalksList image arena work s s' z x isShape level z' → WalksList image arena work s s' z x isShape level z''
+walks_stopped stop same grows w = record {
+  long = w.long;
+  operation = ap (λ (r : Reply). r.operation) same ∙ w.operation;
+  ample = λ go. absurd (stop (ap (λ (r : Reply). r.kind) (sym same) ∙ go));
+  walks = λ l site stands ordered stored listed. refines_stopped stop same grows (w.walks l site stands ordered stored listed);
+}
 
 -- the loop: what is left of a list's parts, said by `Left`
 pub record PassLoop (image : List ℕ) (arena : Arena) (work : ℕ) (s₀ s : List ℕ) (z₀ z : states.Walk) (x : Span) (isShape : Bool) (levels : ℕ) (Left : List ℕ → List (List ℕ) → Type 0) : Type 0 where

@@ -19,6 +19,8 @@ use Rattle.tables.proofs.Counts.{few_rows}
 use Rattle.lists.specs.Part.{StoredAt}
 use Rattle.selection.specs.declared.arena.Arena.{Arena}
 use Rattle.selection.specs.declared.arena.Walk as states
+use Rattle.selection.specs.declared.arena.Reply.{Reply}
+use Rattle.std.specs.Prelude.{None}
 use Rattle.lists.specs.declared.Span.{Span}
 use Rattle.expand.specs.declared.Expansion.{Expansion}
 use Rattle.selection.specs.declared.walk.Met.{Met}
@@ -26,13 +28,13 @@ use Rattle.expand.specs.Expanding.{Expanded, Listed}
 use Rattle.selection.specs.Regions.{area_of, registry_of, Places}
 use Rattle.selection.specs.Standing.{LinkFrame, LinkableBoth, Stood}
 use Rattle.selection.specs.Places.{row_in}
-use Rattle.selection.specs.Refining.{paid_for, document, pass_of, Holds, Tells, charged, length_of, MeetsList, Ample, Begun, Site, Rows, Kept, Refines, walk_list, Entered, Meets, Queued, MeetsSets}
+use Rattle.selection.specs.Refining.{goes_deeper, list_of, paid_for, document, pass_of, Holds, Tells, charged, length_of, MeetsList, Ample, Begun, Site, Rows, Kept, Refines, walk_list, Entered, Meets, Queued, MeetsSets}
 use Rattle.selection.proofs.RegionLaws.{area_for}
 use Rattle.selection.proofs.StandLaws.{classed_kept, heads_low, in_front, row_in_lem}
 use Rattle.expand.proofs.ExpandedLaws.{listed_expand}
 use Rattle.lists.proofs.Parts.{stores_same}
 use Rattle.known.proofs.KnownLaws.{Fits, known_kept, keeps}
-use Rattle.selection.proofs.RefineLaws.{MetCase, again, refused, stored, met_case, met_done, met_entered}
+use Rattle.selection.proofs.RefineLaws.{refines_stopped, MetCase, again, refused, stored, met_case, met_done, met_entered}
 
 -- ---- whatever the image is
 
@@ -88,13 +90,13 @@ record After (s s' : List ℕ) (arena : Arena) (work : ℕ) (z : states.Walk) (x
   pub long : length s' ≡ length s
   pub front : (k : ℕ) → k < arena.heads → arena.heads ≤ arena.chain → arena.chain ≤ arena.store → get_or s' k 0 ≡ get_or s k 0
   pub behind : (k : ℕ) → arena.heads + arena.names < k → (k ≡ arena.chain + z.known → ⊥) → (k ≡ arena.store + z.known → ⊥) → get_or s' k 0 ≡ get_or s k 0
-  pub list : r.list ≡ x
+  pub list : goes_deeper r ≡ true → list_of r ≡ x
   pub expansions : r.walk.expansions ≡ z.expansions
   pub operation : r.walk.reply.operation ≡ z.reply.operation
   pub grows : z.known ≤ x.end → z.known ≤ r.walk.known
   pub within : r.walk.reply.kind ≡ 0 → r.walk.reply.used ≤ work
-  pub end : r.deeper ≡ true → r.walk.known ≡ x.end
-  pub going : r.deeper ≡ true → r.walk.reply.kind ≡ 0
+  pub end : goes_deeper r ≡ true → r.walk.known ≡ x.end
+  pub going : goes_deeper r ≡ true → r.walk.reply.kind ≡ 0
 
 after_met : {s s' : List ℕ} {arena : Arena} {work : ℕ} {z : states.Walk} {x : Span} {r : Met} → MeetsList s s' arena work z x r → After s s' arena work z x r
 after_met {s} {s'} {arena} {work} {z} {x} {r} m = go (met_case m)
@@ -104,7 +106,7 @@ after_met {s} {s'} {arena} {work} {z} {x} {r} m = go (met_case m)
       long = refl;
       front = λ k _ _ _. refl;
       behind = λ k _ _ _. refl;
-      list = refl;
+      list = λ e. absurd (false≢true e);
       expansions = paid.expansions;
       operation = paid.operation;
       grows = λ _. omega (arith, paid.known);
@@ -116,7 +118,7 @@ after_met {s} {s'} {arena} {work} {z} {x} {r} m = go (met_case m)
       long = refl;
       front = λ k _ _ _. refl;
       behind = λ k _ _ _. refl;
-      list = refl;
+      list = λ e. absurd (false≢true e);
       expansions = paid.expansions;
       operation = paid.operation;
       grows = λ _. omega (arith, paid.known);
@@ -128,7 +130,7 @@ after_met {s} {s'} {arena} {work} {z} {x} {r} m = go (met_case m)
       long = kept.long;
       front = kept.front;
       behind = kept.behind;
-      list = refl;
+      list = λ _. refl;
       expansions = paid.expansions;
       operation = paid.operation;
       grows = λ h. h;
@@ -238,13 +240,13 @@ module _ {image : List ℕ} {arena : Arena} {work : ℕ} {s s₁ s₂ : List ℕ
     within = left.within at-0;
   }
 
-  flat_tells : m.deeper ≡ false → (P : Pass) (levels : ℕ) (y : State) → Holds s arena z.reply.operation z y
+  flat_tells : goes_deeper m ≡ false → (P : Pass) (levels : ℕ) (y : State) → Holds s arena z.reply.operation z y
       → Tells s₂ arena z.reply.operation m.walk (walk (document image) P stop z.reply.operation work levels starts y)
   unfolding walk
   flat_tells flat P zero y h = tt
   flat_tells flat P (suc levels) y h = met_done z.reply.operation met l list₁ y (holds₁ y h) flat (walk_parts (document image) P stop z.reply.operation (walk (document image) P stop z.reply.operation work levels) (P.parts l))
 
-  entered_same : m.deeper ≡ true → (P : Pass) (levels : ℕ) (y : State) → Holds s arena z.reply.operation z y → (s'' : List ℕ) (z'' : states.Walk)
+  entered_same : goes_deeper m ≡ true → (P : Pass) (levels : ℕ) (y : State) → Holds s arena z.reply.operation z y → (s'' : List ℕ) (z'' : states.Walk)
       → Tells s'' arena z.reply.operation z'' (walk_list image arena work z.reply.operation P levels l (paid_for l y))
       → Tells s'' arena z.reply.operation z'' (walk (document image) P stop z.reply.operation work levels starts y)
   unfolding walk walk_list
@@ -260,26 +262,26 @@ module _ {image : List ℕ} {arena : Arena} {work : ℕ} {s s₁ s₂ : List ℕ
     once = rw (← is_expand) listed.rows.fresh.once;
   }
 
-  list₂ : StoredAt s₂ arena.store m.list l
-  list₂ = rw left.list (record { rows = stores_same left.long (λ k ge less. left.behind k (omega (arith, heads_low regions, regions.links, regions.store)) (λ e. omega (arith, chain_low, regions.store)) (λ e. omega (arith, begun.listed))) list₁.rows })
+  list₂ : goes_deeper m ≡ true → StoredAt s₂ arena.store (list_of m) l
+  list₂ deeper = rw (left.list deeper) (record { rows = stores_same left.long (λ k ge less. left.behind k (omega (arith, heads_low regions, regions.links, regions.store)) (λ e. omega (arith, chain_low, regions.store)) (λ e. omega (arith, begun.listed))) list₁.rows })
 
   -- where the list was entered it is linked
-  module _ (deeper : m.deeper ≡ true) where
-    start_is : m.list.start ≡ z.known + 1
-    start_is = ap (λ (k : Span). k.start) left.list ∙ begun.listed
+  module _ (deeper : goes_deeper m ≡ true) where
+    start_is : (list_of m).start ≡ z.known + 1
+    start_is = ap (λ (k : Span). k.start) (left.list deeper) ∙ begun.listed
 
-    end_is : m.list.end ≡ end
-    end_is = ap (λ (k : Span). k.end) left.list
+    end_is : (list_of m).end ≡ end
+    end_is = ap (λ (k : Span). k.end) (left.list deeper)
 
     site_met : Site image arena work z.reply.operation s₂ m.walk
     site_met = site₂ (left.going deeper)
 
-    fits : m.list.end ≤ work + 1 + count_at image selections
+    fits : (list_of m).end ≤ work + 1 + count_at image selections
     fits = omega (arith, end_is, listed.most, begun.listed, low)
 
-    linkable : LinkableBoth arena (count_at image selections) s₂ m.list
+    linkable : LinkableBoth arena (count_at image selections) s₂ (list_of m)
     linkable =
-        let row : (p : ℕ) → m.list.start ≤ p → p < m.list.end → row_in s₂ arena.store p < count_at image selections = λ p h less. rows_l.inside _ (row_in_lem site_met list₂ p h less) in
+        let row : (p : ℕ) → (list_of m).start ≤ p → p < (list_of m).end → row_in s₂ arena.store p < count_at image selections = λ p h less. rows_l.inside _ (row_in_lem site_met (list₂ deeper) p h less) in
         record {
           names = record {
             rows = row;
@@ -301,22 +303,22 @@ module _ {image : List ℕ} {arena : Arena} {work : ℕ} {s s₁ s₂ : List ℕ
           small = regions.small;
         }
 
-  module _ (deeper : m.deeper ≡ true) {s' : List ℕ} {isShape : Bool} (stood : Stood arena isShape s₂ s' m.list) where
+  module _ (deeper : goes_deeper m ≡ true) {s' : List ℕ} {isShape : Bool} (stood : Stood arena isShape s₂ s' (list_of m)) where
     abbrev site_now : Site image arena work z.reply.operation s₂ m.walk
     site_now = site_met deeper
 
-    framed : LinkFrame arena m.list.start s₂ s'
+    framed : LinkFrame arena (list_of m).start s₂ s'
     framed = stood.frame (count_at image selections) (linkable deeper)
 
     pub entered_linked : Entered image arena work z.reply.operation isShape (λ levels. walk (document image) (pass_of image isShape) stop z.reply.operation work levels starts) s s' z m
     entered_linked = record {
       list = l;
       stands = record {
-        rows = record { rows = stores_same framed.long (λ k ge less. framed.store k (omega arith)) list₂.rows };
+        rows = record { rows = stores_same framed.long (λ k ge less. framed.store k (omega arith)) (list₂ deeper).rows };
         names = stood.names (count_at image selections) (linkable deeper);
         pairs = stood.pairs (count_at image selections) (linkable deeper);
       };
-      ordered = rw left.list listed.grows;
+      ordered = rw (left.list deeper) listed.grows;
       rows = rows_l;
       stored = omega (arith, left.end deeper, end_is deeper);
       site = record {
@@ -350,13 +352,13 @@ module _ {image : List ℕ} {arena : Arena} {work : ℕ} {s s₁ s₂ : List ℕ
       same = entered_same deeper (pass_of image isShape);
     }
 
-  pub flat_done : m.deeper ≡ false → {s' : List ℕ} → s' ≡ s₂ → (P : Pass) (levels : ℕ) → Refines image arena work z.reply.operation (walk (document image) P stop z.reply.operation work levels starts) s s' z m.walk
+  pub flat_done : goes_deeper m ≡ false → {s' : List ℕ} → s' ≡ s₂ → (P : Pass) (levels : ℕ) → Refines image arena work z.reply.operation (walk (document image) P stop z.reply.operation work levels starts) s s' z m.walk
   flat_done flat same P levels = rw same (record { tells = λ y h. flat_tells flat P levels y h; site = site₂; kept = kept })
 
 -- what happens to the words once a list is met
 pub data Linking (arena : Arena) (isShape : Bool) (s s' : List ℕ) (m : Met) : Type 0 where
-  links_it : m.deeper ≡ true → Stood arena isShape s s' m.list → Linking arena isShape s s' m
-  leaves_it : m.deeper ≡ false → s' ≡ s → Linking arena isShape s s' m
+  links_it : goes_deeper m ≡ true → Stood arena isShape s s' (list_of m) → Linking arena isShape s s' m
+  leaves_it : goes_deeper m ≡ false → s' ≡ s → Linking arena isShape s s' m
 
 pub meets_sets : {image : List ℕ} {arena : Arena} {work : ℕ} {s s₁ s₂ s' : List ℕ} {z : states.Walk} {x : Expansion} {end : ℕ} {isShape : Bool} {m : Met}
     → Ample work 0 z → Begun z x → Expanded image (area_of arena) s s₁ x end
@@ -386,3 +388,13 @@ meets_sets {image} {arena} {work} {s} {s₂ = s₂} {s' = s'} {z = z} {x = x} {i
       done = λ _ levels. flat_done ample begun expanded met starts site queued flat same (pass_of image isShape) levels;
       entered = λ deeper. absurd (false≢true (sym flat ∙ deeper));
     }
+
+-- where the walk stopped, its state but for the reply does not matter
+pub sets_stopped : {image : List ℕ} {arena : Arena} {work : ℕ} {s s' : List ℕ} {z : states.Walk} {x : Expansion} {isShape : Bool} {m : Met} (z' : states.Walk) → (m.walk.reply.kind ≡ 0 → ⊥)
+    → goes_deeper m ≡ false → z'.reply ≡ m.walk.reply → z.known ≤ z'.known → MeetsSets image arena work s s' z x isShape m → MeetsSets image arena work s s' z x isShape (record { walk = z'; below = None })
+sets_stopped z' stop flat same grows met = record {
+  operation = ap (λ (r : Reply). r.operation) same ∙ met.operation;
+  going = λ e. absurd (false≢true e);
+  ample = λ go. absurd (stop (ap (λ (r : Reply). r.kind) (sym same) ∙ go));
+  meets = λ sets site queued. record { done = λ _ levels. refines_stopped stop same grows ((met.meets sets site queued).done flat levels); entered = λ e. absurd (false≢true e) };
+}

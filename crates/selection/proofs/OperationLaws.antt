@@ -1,6 +1,6 @@
 -- The check of an operation: its own set is met, and the two passes run. Assumes nothing.
-use mathlib.Core.Path.{◌≡◌, sym, ◌∙◌, subst}
-use mathlib.Core.Bool.{Bool, true, false}
+use mathlib.Core.Path.{◌≡◌, refl, sym, ap, ◌∙◌, subst}
+use mathlib.Core.Bool.{Bool, false, false≢true}
 use mathlib.Core.List.{List, [], ◌∷◌}
 use Prim.Native.Nat.{ℕ, suc, ◌+◌, ◌-◌, ◌≤◌, ◌<◌}
 use native.Mathlib.Omega.{arith}
@@ -16,16 +16,19 @@ use Rattle.tables.specs.Image.{count_at}
 use Rattle.selection.specs.declared.arena.Arena.{Arena}
 use Rattle.selection.specs.Regions.{area_of, registry_of}
 use Rattle.selection.specs.declared.arena.Walk as states
+use Rattle.selection.specs.declared.arena.Reply.{Reply}
+use Rattle.lists.specs.declared.Span.{Span}
 use Rattle.expand.specs.declared.Expansion.{Expansion}
 use Rattle.selection.specs.declared.walk.Met.{Met}
 use Rattle.expand.specs.ImageDocument.{limit_of_links}
 use Rattle.expand.specs.Expanding.{queue_next, queue_words, once_none, once_more, StartSet, of_operation}
-use Rattle.selection.specs.Refining.{paid_for, document, pass_of, Ample, Begun, Site, Refines, Meets, MeetsSets, WalksList}
+use Rattle.std.specs.Prelude.{Some, is_some, Result, Ok, Err}
+use Rattle.selection.specs.Refining.{goes_deeper, list_of, span_in, stopped, ended, met_from, Ends, EndsMet, paid_for, document, pass_of, Ample, Begun, Site, Refines, Meets, MeetsSets, WalksList}
 use Rattle.selection.specs.Validating.{forgotten, MeetsOperation, Runs}
 use Rattle.expand.proofs.ExpandedLaws.{queue_next_lem, queue_stores, queue_outside}
 use Rattle.known.specs.KnownLists.{forgotten_words}
 use Rattle.known.proofs.KnownLaws.{Forgets, forgets}
-use Rattle.selection.proofs.RefineLaws.{kept_trans, then_go, by}
+use Rattle.selection.proofs.RefineLaws.{kept_trans, then_go, by, tells_stopped, refines_stopped}
 use Rattle.selection.proofs.StandLaws.{classed_kept, heads_low, in_front, site_queue}
 use Rattle.selection.proofs.QueueingLaws.{next_listed}
 use Rattle.selection.proofs.LoopLaws.{WalksAs}
@@ -151,13 +154,13 @@ runs_by {arena = arena} forgot long same ample refines = record {
 
 module _ {image : List ℕ} {arena : Arena} {work operation : ℕ} {s s₀ s₁ : List ℕ} {z : states.Walk} {m : Met} (isShape : Bool) (forgot : s₀ ≡ emptied arena s) (long₁ : length s₁ ≡ length s)
     (met : MeetsOperation image arena work operation s₀ s₁ z isShape m) where
-  pub pass_flat : m.deeper ≡ false → Runs image arena work operation s s₁ z isShape m.walk
+  pub pass_flat : goes_deeper m ≡ false → Runs image arena work operation s s₁ z isShape m.walk
   pass_flat flat = runs_by forgot long₁ met.same met.ample (λ site is row. (met.meets site is row).done flat (suc limit_of_links))
 
-  pub pass_deeper : m.deeper ≡ true → {s' : List ℕ} {z' : states.Walk} → WalksList image arena work s₁ s' m.walk m.list isShape (suc limit_of_links) z'
+  pub pass_deeper : {x : Span} → m.below ≡ Some x → {s' : List ℕ} {z' : states.Walk} → WalksList image arena work s₁ s' m.walk x isShape (suc limit_of_links) z'
       → Runs image arena work operation s s' z isShape z'
-  pass_deeper deeper {s'} {z'} walked = runs_by forgot (walked.long ∙ long₁) (walked.operation ∙ met.same) walked.ample λ site is row.
-      let e = (met.meets site is row).entered deeper in
+  pass_deeper is_list {s'} {z'} walked = runs_by forgot (walked.long ∙ long₁) (walked.operation ∙ met.same) walked.ample λ site is row.
+      let e = (met.meets site is row).entered (ap is_some is_list) in
       let r = walks e.list e.site e.stands e.ordered e.stored e.rows in
       record {
         tells = λ y h. e.same (suc limit_of_links) y h s' z' (r.tells (paid_for e.list y) (e.goes y h));
@@ -165,5 +168,28 @@ module _ {image : List ℕ} {arena : Arena} {work operation : ℕ} {s s₀ s₁ 
         kept = kept_trans e.kept r.kept;
       }
     where
-      walks : WalksAs image arena work z.reply.operation s₁ s' m.walk m.list isShape (suc limit_of_links) z'
-      walks = subst (λ (op : ℕ). WalksAs image arena work op s₁ s' m.walk m.list isShape (suc limit_of_links) z') met.same walked.walks
+      walks : WalksAs image arena work z.reply.operation s₁ s' m.walk (list_of m) isShape (suc limit_of_links) z'
+      walks = subst (λ (op : ℕ). WalksAs image arena work op s₁ s' m.walk (list_of m) isShape (suc limit_of_links) z') met.same (rw (ap span_in is_list) walked.walks)
+
+-- ---- where the walk stopped, its state but for the reply does not matter
+
+module _ {image : List ℕ} {arena : Arena} {work operation : ℕ} {s s' : List ℕ} {z : states.Walk} {isShape : Bool} where
+  pub operation_from : (r : Result Met Reply) → EndsMet r → MeetsOperation image arena work operation s s' z isShape (met_from (forgotten z) r) → MeetsOperation image arena work operation s s' z isShape (met_from z r)
+  operation_from (Ok m) ends met = met
+  operation_from (Err r) stop met = record {
+    same = met.same;
+    going = λ e. absurd (false≢true e);
+    ample = λ go. absurd (stop go);
+    meets = λ site is row. record { done = λ flat levels. refines_stopped stop refl (omega arith) ((met.meets site is row).done flat levels); entered = λ e. absurd (false≢true e) };
+  }
+
+  pub runs_from : (z₁ : states.Walk) (r : Result states.Walk Reply) → Ends r → Runs image arena work operation s s' z isShape (ended z₁ r) → Runs image arena work operation s s' z isShape (ended z r)
+  runs_from z₁ (Ok z') ends ran = ran
+  runs_from z₁ (Err r) stop ran = record {
+    long = ran.long;
+    same = ran.same;
+    ample = λ go. absurd (stop go);
+    site = λ site is row go. absurd (stop go);
+    frame = ran.frame;
+    tells = λ y site is row reply. tells_stopped s' arena z.reply.operation (stopped z₁ r) (stopped z r) _ stop refl (ran.tells y site is row reply);
+  }

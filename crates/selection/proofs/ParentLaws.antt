@@ -3,9 +3,8 @@ use mathlib.Core.Path.{◌≡◌, refl, sym, ap, ◌∙◌}
 use mathlib.Core.Logic.{⊎_elim}
 use mathlib.Core.Bool.{Bool, true, false, cond, not, false≢true}
 use mathlib.Core.List.{List, ◌++◌}
-use Prim.Native.Nat.{ℕ, suc, ◌+◌, ◌-◌, ◌*◌, ◌≤◌, ◌<◌}
+use Prim.Native.Nat.{ℕ, suc, ◌≤◌, ◌<◌}
 use native.Mathlib.Nat.{le_refl}
-use native.Mathlib.Omega.{arith}
 use lib.Dec.{T, eqb}
 use borrow.Author.Tests.{eqb-true}
 use Rattle.merge_theory.specs.Lists.{◌∈◌, filter}
@@ -39,17 +38,6 @@ module _ (image s : List ℕ) (store : ℕ) (x : Span) where
       either : (b : Bool) (p q : Part) → p.list ≡ x → q.list ≡ x → (cond b p q).list ≡ x
       either true p q h k = h
       either false p q h k = k
-
--- the measure of the loop: groups, then the places in one
-abbrev pub to_go : ℕ → Cursor → ℕ
-to_go end c = (end - c.group) * 4294967296 + (end - c.first)
-
-pub goes_down : (image s : List ℕ) (arena : Arena) (x : Span) (c c' : Cursor) → x.end < 4294967296 → c.group < x.end → c.first < x.end → NextSubgroup image s arena x c c'
-    → to_go x.end c' < to_go x.end c
-goes_down image s arena x c c' small less first a = ⊎_elim (λ h. same_group h.0 h.1) (λ h. omega arith) a.further
-  where
-    same_group : c'.group ≡ c.group → c.first < c'.first → to_go x.end c' < to_go x.end c
-    same_group e f = omega arith
 
 -- ---- the rows of a subgroup
 

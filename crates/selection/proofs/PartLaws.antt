@@ -21,7 +21,8 @@ use Rattle.selection.specs.declared.groups.Segment.{Segment}
 use Rattle.selection.specs.declared.groups.Cursor.{Cursor}
 use Rattle.lists.specs.Part.{StoredAt}
 use Rattle.selection.specs.Places.{seek, row_in, before, onward, appears, fresh_from}
-use Rattle.selection.specs.Grouping.{of_kind, member, segment, every_parent, one_parent, abstract_parent, has_object_parent, belongs, member_place, name_at, parent_at, is_first_of_name, opens_subgroup, group_place, subgroup_place, first_subgroup, later_subgroup, next_subgroup, group_part, subgroup_part, part_rows, others_place, Grounded, PartAt, of_all, of_object, of_others}
+use Rattle.selection.specs.declared.groups.Among.TheVariants.{Every, One, Abstract}
+use Rattle.selection.specs.Grouping.{is_among, member, segment, has_object_parent, belongs, member_place, name_at, parent_at, is_first_of_name, opens_subgroup, group_place, subgroup_place, first_subgroup, later_subgroup, next_subgroup, group_part, subgroup_part, part_rows, others_place, Grounded, PartAt, of_all, of_object, of_others}
 use Rattle.selection.proofs.PlaceLaws.{row_is, eqb_sym, none_seen, fresh_rest, seek_ge, seek_skips, seek_passes, Found, found, found_row, filter_skip, filter_cong, filter_filter, onward_start, onward_over, before_start, appears_by, fresh_all, fresh_here, fresh_skip, fresh_over}
 
 -- what a search for the first appearance of a key found
@@ -62,16 +63,16 @@ abbrev pub concrete : Document → ℕ → ℕ → Bool
 concrete D name f = eqb (D.name_of f) name && D.is_object (D.parent_of f)
 
 -- the three kinds of segments
-member_all : (D : Document) (name f : ℕ) → member D (segment name every_parent 0) f ≡ eqb (D.name_of f) name
-unfolding member of_kind
+member_all : (D : Document) (name f : ℕ) → member D (segment name Every) f ≡ eqb (D.name_of f) name
+unfolding member is_among
 member_all D name f = and-true (eqb (D.name_of f) name)
 
-member_one : (D : Document) (name parent f : ℕ) → member D (segment name one_parent parent) f ≡ (eqb (D.name_of f) name && eqb (D.parent_of f) parent)
-unfolding member of_kind
+member_one : (D : Document) (name parent f : ℕ) → member D (segment name (One parent)) f ≡ (eqb (D.name_of f) name && eqb (D.parent_of f) parent)
+unfolding member is_among
 member_one D name parent f = refl
 
-member_abstract : (D : Document) (name f : ℕ) → member D (segment name abstract_parent 0) f ≡ (eqb (D.name_of f) name && not (D.is_object (D.parent_of f)))
-unfolding member of_kind
+member_abstract : (D : Document) (name f : ℕ) → member D (segment name Abstract) f ≡ (eqb (D.name_of f) name && not (D.is_object (D.parent_of f)))
+unfolding member is_among
 member_abstract D name f = refl
 
 three : (a b c d : Bool) → (b ≡ true → c ≡ d) → (a && (b && c)) ≡ ((a && b) && d)
@@ -95,7 +96,7 @@ field_at x l p = get_or l (p - x.start) 0
 
 -- the fields of a name whose parents are no objects
 abbrev pub others : Document → ℕ → ℕ → Bool
-others D name = member D (segment name abstract_parent 0)
+others D name = member D (segment name Abstract)
 
 -- an open subgroup: its group is one, and it is that of an object parent, or all of a group where there is no such parent
 pub record Opened (D : Document) (x : Span) (l : List ℕ) (c : Cursor) : Type 0 where
@@ -187,8 +188,8 @@ module _ {D : Document} {image s : List ℕ} {store : ℕ} {x : Span} {l : List 
   first_of_name : (p : ℕ) → x.start ≤ p → p < x.end → is_first_of_name image s store x p ≡ appears D.name_of all (before x l p) (row_in s store p)
   unfolding is_first_of_name appears
   first_of_name p low less =
-      appears_by D.name_of all G.list (λ q. belongs image s (segment (name_at image s store p) every_parent 0) (row_in s store q)) p low less
-      (λ q h m. belongs_is (segment (name_at image s store p) every_parent 0) q h (omega arith) ∙ member_all D (name_at image s store p) (row_in s store q) ∙ ap (eqb (D.name_of (row_in s store q))) (G.names (row_in s store p)))
+      appears_by D.name_of all G.list (λ q. belongs image s (segment (name_at image s store p) Every) (row_in s store q)) p low less
+      (λ q h m. belongs_is (segment (name_at image s store p) Every) q h (omega arith) ∙ member_all D (name_at image s store p) (row_in s store q) ∙ ap (eqb (D.name_of (row_in s store q))) (G.names (row_in s store p)))
 
   pub group_found_lem : (from : ℕ) {q : ℕ} → x.start ≤ from → q ≡ group_place image s store x from → FoundKey D.name_of all x l from q (row_in s store q)
   group_found_lem from low e = found_key D.name_of all G.list (is_first_of_name image s store x) from low first_of_name e
@@ -199,9 +200,9 @@ module _ {D : Document} {image s : List ℕ} {store : ℕ} {x : Span} {l : List 
   unfolding part_rows group_part fields_with is_first_of_name
   group_rows g low less opens =
       let n = name_at image s store g in
-      let alone = none_before (segment n every_parent 0) g (omega arith) (first_of_name g low less ∙ opens) in
-      let behind : filter (member D (segment n every_parent 0)) (onward x l x.end) ≡ [] = nothing_behind (segment n every_parent 0) in
-      rw (behind, append-nil (filter (member D (segment n every_parent 0)) (onward x l g)))
+      let alone = none_before (segment n Every) g (omega arith) (first_of_name g low less ∙ opens) in
+      let behind : filter (member D (segment n Every)) (onward x l x.end) ≡ [] = nothing_behind (segment n Every) in
+      rw (behind, append-nil (filter (member D (segment n Every)) (onward x l g)))
       (sym alone ∙ filter_cong _ _ l (λ f. member_all D n f ∙ ap (eqb (D.name_of f)) (G.names (row_in s store g))))
 
   pub group_part_lem : (g : ℕ) → x.start ≤ g → g < x.end → appears D.name_of all (before x l g) (row_in s store g) ≡ true
@@ -227,8 +228,8 @@ module _ {D : Document} {image s : List ℕ} {store : ℕ} {x : Span} {l : List 
   opens_is name p low less =
       rw (G.names (row_in s store p), G.parents p low less, G.objects (D.parent_of (row_in s store p)))
       (three (eqb (D.name_of (row_in s store p)) name) (D.is_object (D.parent_of (row_in s store p))) _ _ λ object.
-      appears_by D.parent_of (concrete D name) G.list (λ q. belongs image s (segment name one_parent (D.parent_of (row_in s store p))) (row_in s store q)) p low less
-      (λ q h m. belongs_is (segment name one_parent (D.parent_of (row_in s store p))) q h (omega arith) ∙ member_one D name (D.parent_of (row_in s store p)) (row_in s store q)
+      appears_by D.parent_of (concrete D name) G.list (λ q. belongs image s (segment name (One (D.parent_of (row_in s store p)))) (row_in s store q)) p low less
+      (λ q h m. belongs_is (segment name (One (D.parent_of (row_in s store p)))) q h (omega arith) ∙ member_one D name (D.parent_of (row_in s store p)) (row_in s store q)
       ∙ same_parent_lem D name (D.parent_of (row_in s store p)) (row_in s store q) object))
 
   pub subgroup_found : (name from : ℕ) {q : ℕ} → x.start ≤ from → q ≡ subgroup_place image s store x name from
@@ -240,13 +241,13 @@ module _ {D : Document} {image s : List ℕ} {store : ℕ} {x : Span} {l : List 
 
   -- in a group, the fields of interface and union parents stand from its first field on
   abstracts_from : (g : ℕ) → x.start ≤ g → g < x.end → appears D.name_of all (before x l g) (row_in s store g) ≡ true
-      → filter (member D (segment (name_at image s store g) abstract_parent 0)) (onward x l g) ≡ abstracts D (fields_with D.name_of l (D.name_of (row_in s store g)))
+      → filter (member D (segment (name_at image s store g) Abstract)) (onward x l g) ≡ abstracts D (fields_with D.name_of l (D.name_of (row_in s store g)))
   unfolding abstracts fields_with is_first_of_name
   abstracts_from g low less opens =
       let n = name_at image s store g in
       let no_object : ℕ → Bool = λ f. not (D.is_object (D.parent_of f)) in
       let named : ℕ → Bool = λ f. eqb (D.name_of f) n in
-      let alone = none_before (segment n every_parent 0) g (omega arith) (first_of_name g low less ∙ opens) in
+      let alone = none_before (segment n Every) g (omega arith) (first_of_name g low less ∙ opens) in
       let same : filter named (onward x l g) ≡ filter named l =
       filter_cong _ _ (onward x l g) (λ f. sym (member_all D n f)) ∙ sym alone ∙ filter_cong _ _ l (λ f. member_all D n f) in
       filter_cong _ _ (onward x l g) (λ f. member_abstract D n f)
@@ -256,13 +257,13 @@ module _ {D : Document} {image s : List ℕ} {store : ℕ} {x : Span} {l : List 
 
   -- the fields of one object parent stand from the first of them on
   concretes_from : (name p : ℕ) → x.start ≤ p → p < x.end → appears D.parent_of (concrete D name) (before x l p) (row_in s store p) ≡ true
-      → filter (member D (segment name one_parent (parent_at image s store p))) (onward x l p) ≡ fields_with D.parent_of (fields_with D.name_of l name) (D.parent_of (row_in s store p))
+      → filter (member D (segment name (One (parent_at image s store p)))) (onward x l p) ≡ fields_with D.parent_of (fields_with D.name_of l name) (D.parent_of (row_in s store p))
   unfolding fields_with opens_subgroup
   concretes_from name p low less opens =
       let object = has_object_parent image s (row_in s store p) in
-      let alone = eqb (member_place image s store (segment name one_parent (parent_at image s store p)) x.start p) p in
+      let alone = eqb (member_place image s store (segment name (One (parent_at image s store p))) x.start p) p in
       let last = second_of object alone (second_of (eqb (name_at image s store p) name) (object && alone) (opens_is name p low less ∙ opens)) in
-      let alone = none_before (segment name one_parent (parent_at image s store p)) p (omega arith) last in
+      let alone = none_before (segment name (One (parent_at image s store p))) p (omega arith) last in
       sym alone
       ∙ filter_cong _ _ l (λ f. member_one D name (parent_at image s store p) f)
       ∙ sym (filter_filter (λ f. eqb (D.parent_of f) (parent_at image s store p)) (λ f. eqb (D.name_of f) name) l)
@@ -305,7 +306,7 @@ module _ {D : Document} {image s : List ℕ} {store : ℕ} {x : Span} {l : List 
     rest_row : c.others < x.end → row_in s store c.others ≡ field_at x l c.others
     rest_row less = field_is c.others (omega (arith, here.from, here.rest.ahead)) less
 
-    back_rows : filter (member D (segment (name_at image s store c.group) abstract_parent 0)) (onward x l c.group) ≡ abstracts D (fields_with D.name_of l name_c)
+    back_rows : filter (member D (segment (name_at image s store c.group) Abstract)) (onward x l c.group) ≡ abstracts D (fields_with D.name_of l name_c)
     back_rows = abstracts_from c.group group_in.0 group_in.1 (rw group_row here.group) ∙ ap (λ f. abstracts D (fields_with D.name_of l (D.name_of f))) group_row
 
     with_object : appears D.parent_of (concrete D name_c) (before x l c.first) (field_at x l c.first) ≡ true
@@ -317,7 +318,7 @@ module _ {D : Document} {image s : List ℕ} {store : ℕ} {x : Span} {l : List 
         rw (group_name, first_row) (first_of _ _ (concrete_of D name_c _ _ opens)) in
         let n = name_at image s store c.group in
         let front = concretes_from n c.first first_in.0 first_in.1 (rw (group_name, first_row) opens) in
-        let rows : filter (member D (segment n one_parent (parent_at image s store c.first))) (onward x l c.first) ≡ fields_with D.parent_of (fields_with D.name_of l name_c) (D.parent_of (field_at x l c.first)) =
+        let rows : filter (member D (segment n (One (parent_at image s store c.first)))) (onward x l c.first) ≡ fields_with D.parent_of (fields_with D.name_of l name_c) (D.parent_of (field_at x l c.first)) =
         front ∙ rw (group_name, first_row) in
         rw (object-s, object) (record {
           from = first_in.0;
@@ -327,7 +328,7 @@ module _ {D : Document} {image s : List ℕ} {store : ℕ} {x : Span} {l : List 
           front_proper = of_object refl n (parent_at image s store c.first) (sym (G.objects (parent_at image s store c.first)) ∙ object-s);
           back_proper = of_others refl n;
           heads = member_one D n (parent_at image s store c.first) (row_in s store c.first) ∙ both named (eq-eqb _ _ (sym (G.parents c.first first_in.0 first_in.1)));
-          fields = ap (λ m. filter (member D (segment n one_parent (parent_at image s store c.first))) (onward x l c.first) ++ m) (sym rest_here.same) ∙ ap (λ m. m ++ filter (member D (segment n abstract_parent 0)) (onward x l c.group)) rows ∙ ap (λ m. fields_with D.parent_of (fields_with D.name_of l name_c) (D.parent_of (field_at x l c.first)) ++ m) back_rows;
+          fields = ap (λ m. filter (member D (segment n (One (parent_at image s store c.first)))) (onward x l c.first) ++ m) (sym rest_here.same) ∙ ap (λ m. m ++ filter (member D (segment n Abstract)) (onward x l c.group)) rows ∙ ap (λ m. fields_with D.parent_of (fields_with D.name_of l name_c) (D.parent_of (field_at x l c.first)) ++ m) back_rows;
         })
 
     without_object : D.is_object (D.parent_of (field_at x l c.first)) ≡ false → c.first ≡ c.group → PartAt D false s store l (subgroup_part image s store x c) (subgroup_at D x l c)
@@ -345,9 +346,9 @@ module _ {D : Document} {image s : List ℕ} {store : ℕ} {x : Span} {l : List 
           front_proper = of_others refl n;
           back_proper = of_others refl n;
           heads = member_abstract D n (row_in s store c.first) ∙ both (eq-eqb _ _ named) no_object;
-          fields = ap (λ m. filter (member D (segment n abstract_parent 0)) (onward x l c.first) ++ m) (nothing_behind (segment n abstract_parent 0))
-              ∙ append-nil (filter (member D (segment n abstract_parent 0)) (onward x l c.first))
-              ∙ ap (λ k. filter (member D (segment n abstract_parent 0)) (onward x l k)) is
+          fields = ap (λ m. filter (member D (segment n Abstract)) (onward x l c.first) ++ m) (nothing_behind (segment n Abstract))
+              ∙ append-nil (filter (member D (segment n Abstract)) (onward x l c.first))
+              ∙ ap (λ k. filter (member D (segment n Abstract)) (onward x l k)) is
               ∙ back_rows;
         })
 
@@ -434,7 +435,7 @@ module _ {D : Document} {image s : List ℕ} {store : ℕ} {x : Span} {l : List 
 
     rest_q : Found (others D (D.name_of (field_at x l q))) x l q (others_place image s store x q) (field_at x l (others_place image s store x q))
     rest_q =
-        let f = member_found (segment (name_at image s store q) abstract_parent 0) q low_q refl in
+        let f = member_found (segment (name_at image s store q) Abstract) q low_q refl in
         rw (← name_is q low_q less) (found_row f (λ near. field_is (others_place image s store x q) (omega (arith, low_q, f.ahead)) near))
 
     groups_are : subgroups_from D x l from ≡ subgroups_by D (group_named D x l (D.name_of (field_at x l q))) (fresh_from D.parent_of (concrete D (D.name_of (field_at x l q))) x l q) ++ subgroups_from D x l (q + 1)

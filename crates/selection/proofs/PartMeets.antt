@@ -1,6 +1,6 @@
 -- One part of a list: compared, and its sets met. The three ways that this ends. Assumes nothing.
 use mathlib.Core.Path.{◌≡◌, refl, sym, ap, ◌∙◌, subst}
-use mathlib.Core.Bool.{Bool, true, false, false≢true}
+use mathlib.Core.Bool.{Bool, true, false≢true}
 use mathlib.Core.Option.{Option, none, some}
 use mathlib.Core.List.{List, [], ◌∷◌}
 use Prim.Native.Nat.{ℕ, ◌-◌, ◌≤◌}
@@ -20,6 +20,7 @@ use Rattle.selection.specs.declared.groups.Part.{Part}
 use Rattle.selection.specs.declared.walk.Met.{Met}
 use Rattle.selection.specs.Standing.{Stands}
 use Rattle.selection.specs.Grouping.{PartAt}
+use Rattle.std.specs.Prelude.{None}
 use Rattle.selection.specs.Refining.{document, pass_of, Tells, Ample, Begun, Site, Rows, Refines, lower, one_part, MeetsSets, MeetsPart}
 use Rattle.selection.specs.Comparing.{ComparesPart, QueuesPart, Queues, Bare}
 use Rattle.selection.specs.Places.{row_in}
@@ -70,7 +71,7 @@ sets_below_lem f (t ∷ sets) some-sets y = refl
 
 -- a part of one field without a set: nothing happens
 pub part_bare : {image s : List ℕ} {arena : Arena} {work : ℕ} {z : states.Walk} {part : Part} (isShape : Bool) {r : Bool} → Ample work 0 z → Bare image s arena part r → r ≡ true
-    → MeetsPart image arena work s s z part isShape (record { walk = z; list = part.list; deeper = false })
+    → MeetsPart image arena work s s z part isShape (record { walk = z; below = None })
 unfolding compare_first against sets_below flat_map filter
 part_bare {image} {s} {arena} {work} {z} {part} isShape ample bare is = record {
   operation = refl;
@@ -128,7 +129,7 @@ module _ {image : List ℕ} {arena : Arena} {work : ℕ} {s : List ℕ} {z z₁ 
     }
 
   -- a conflict
-  pub part_stops : (z₁.reply.kind ≡ 0 → ⊥) → MeetsPart image arena work s s z part isShape (record { walk = z₁; list = part.list; deeper = false })
+  pub part_stops : (z₁.reply.kind ≡ 0 → ⊥) → MeetsPart image arena work s s z part isShape (record { walk = z₁; below = None })
   part_stops stop = record {
     operation = compared.operation;
     going = λ e. absurd (false≢true e);
@@ -171,7 +172,7 @@ module _ {image : List ℕ} {arena : Arena} {work : ℕ} {s : List ℕ} {z z₁ 
       size = stores_length queues.queue
 
     -- no sets below
-    pub part_flat : x.queued ≡ 0 → MeetsPart image arena work s s₁ z part isShape (record { walk = z₁; list = part.list; deeper = false })
+    pub part_flat : x.queued ≡ 0 → MeetsPart image arena work s s₁ z part isShape (record { walk = z₁; below = None })
     part_flat none-queued = rw same_state (record {
       operation = refl;
       going = λ e. absurd (false≢true e);
@@ -239,7 +240,3 @@ module _ {image : List ℕ} {arena : Arena} {work : ℕ} {s : List ℕ} {z z₁ 
 
 pub begun_queued : {image : List ℕ} {arena : Arena} {s s' : List ℕ} {z : states.Walk} {x₀ x : Expansion} {part : Part} → Begun z x₀ → QueuesPart image arena s s' x₀ x part → Begun z x
 begun_queued begun queued = record { listed = queued.listed ∙ begun.listed; number = queued.number ∙ begun.number }
-
-pub ample_compared : {image s : List ℕ} {arena : Arena} {work : ℕ} {z z₁ : states.Walk} {part : Part} {isShape : Bool} → Ample work 0 z → ComparesPart image s arena z part isShape z₁
-    → z₁.reply.kind ≡ 0 → Ample work 0 z₁
-ample_compared ample compared go = rw (compared.same go) ample

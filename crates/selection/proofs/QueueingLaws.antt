@@ -223,7 +223,7 @@ module _ {image : List ℕ} {arena : Arena} {s₀ : List ℕ} {e₀ : Expansion}
           let is-s : s' ≡ s = rw (words, h) in
           record { before = u.before; queue = stores_at is-s (ap (λ (k : Expansion). k.queued) is-e) u.queue; total = rw h at total_now; frame = rw is-s (outside_none _ _ s) }
 
-    pub queueing_next : {after : ℕ} → after ≡ followed s' arena g.kind place end → Queueing image arena s₀ s' e₀ e' g from end after
+    pub queueing_next : {after : ℕ} → after ≡ followed s' arena g.among place end → Queueing image arena s₀ s' e₀ e' g from end after
     queueing_next {after} found = record {
       listed = field_listed.0 ∙ q.listed;
       number = field_listed.1 ∙ q.number;
@@ -241,7 +241,7 @@ module _ {image : List ℕ} {arena : Arena} {s₀ : List ℕ} {e₀ : Expansion}
           let row_stays : row_in s' arena.store place ≡ row_in s arena.store place = more.frame.above (arena.store + place) (omega (arith, can.site.regions.lasts, can.site.regions.heads, can.site.regions.links, can.site.regions.store)) in
           let here : belongs image s' g (row_in s' arena.store place) ≡ true = belongs_is G g place at_place near ∙ ap (member (document image) g) row_stays ∙ v.found.passes near in
           let F = follows (threaded site' can.listed stands') (document image) G.objects g proper in
-          let found-next : after ≡ member_place image s' arena.store g (place + 1) x.end = found ∙ ap (followed s' arena g.kind place) (sym is) ∙ F place at_place near here in
+          let found-next : after ≡ member_place image s' arena.store g (place + 1) x.end = found ∙ ap (followed s' arena g.among place) (sym is) ∙ F place at_place near here in
           record {
             at = place + 1;
             low = ahead;

@@ -17,10 +17,12 @@ use Rattle.lists.specs.Part.{StoredAt}
 use Rattle.selection.specs.declared.arena.Arena.{Arena}
 use Rattle.selection.specs.Regions.{registry_of}
 use Rattle.selection.specs.declared.arena.Walk as states
+use Rattle.selection.specs.declared.arena.Reply.{Reply}
 use Rattle.lists.specs.declared.Span.{Span}
 use Rattle.selection.specs.declared.walk.Met.{Met}
 use Rattle.known.specs.KnownLists.{slot_at, kept_words}
-use Rattle.selection.specs.Refining.{paid_for, Holds, Tells, charged, length_of, entered, met_list, met_words, MeetsList, Site, Kept, Refines}
+use Rattle.std.specs.Prelude.{Some, None}
+use Rattle.selection.specs.Refining.{goes_deeper, paid_for, Holds, Tells, charged, length_of, entered, met_list, met_words, MeetsList, Site, Kept, Refines}
 use Rattle.known.proofs.KnownLaws.{Fits, known_more}
 
 pub some_kind : (c : Cause) → number_of c ≡ 0 → ⊥
@@ -46,6 +48,12 @@ tells_stop s arena op z (finished y) next h stop = absurd (stop (ap (λ r. r.kin
 tells_stop s arena op z (conflict e y) next h stop = h
 tells_stop s arena op z (out y) next h stop = h
 tells_stop s arena op z (deep y) next h stop = tt
+
+pub tells_stopped : (s : List ℕ) (arena : Arena) (op : ℕ) (z z' : states.Walk) (r : Result) → (z.reply.kind ≡ 0 → ⊥) → z'.reply ≡ z.reply → Tells s arena op z r → Tells s arena op z' r
+tells_stopped s arena op z z' (finished y) stop same h = absurd (stop (ap (λ r. r.kind) h.reply))
+tells_stopped s arena op z z' (conflict e y) stop same h = same ∙ h
+tells_stopped s arena op z z' (out y) stop same h = same ∙ h
+tells_stopped s arena op z z' (deep y) stop same h = tt
 
 module _ {image : List ℕ} {arena : Arena} {work op : ℕ} where
   pub kept_trans : {s s' s'' : List ℕ} {z z' z'' : states.Walk} → Kept image arena work op s s' z z' → Kept image arena work op s' s'' z' z'' → Kept image arena work op s s'' z z''
@@ -81,6 +89,15 @@ module _ {image : List ℕ} {arena : Arena} {work op : ℕ} where
   pub by : {f : Step} (g : Step) {s s' : List ℕ} {z z' : states.Walk} → ((y : State) → Holds s arena op z y → g y ≡ f y)
       → Refines image arena work op f s s' z z' → Refines image arena work op g s s' z z'
   by g {s' = s'} {z' = z'} same p = record { tells = λ y h. rw (same y h) (p.tells y h); site = p.site; kept = p.kept }
+
+  -- where the walk stopped, its state but for the reply does not matter
+  pub refines_stopped : {f : Step} {s s' : List ℕ} {z z' z'' : states.Walk} → (z'.reply.kind ≡ 0 → ⊥) → z''.reply ≡ z'.reply → z.known ≤ z''.known
+      → Refines image arena work op f s s' z z' → Refines image arena work op f s s' z z''
+  refines_stopped {f} {s' = s'} {z' = z'} {z'' = z''} stop same grows p = record {
+    tells = λ y h. tells_stopped s' arena op z' z'' (f y) stop same (p.tells y h);
+    site = λ go. absurd (stop (ap (λ (r : Reply). r.kind) (sym same) ∙ go));
+    kept = record { long = p.kept.long; parents = p.kept.parents; links = p.kept.links; known = p.kept.known; beyond = p.kept.beyond; grows = grows };
+  }
 
   pub idle : {s : List ℕ} {z : states.Walk} → Site image arena work op s z → Refines image arena work op finished s s z z
   idle {s} {z} site = record { tells = λ y h. h; site = λ _. site; kept = kept_none s z z (omega arith) }
@@ -145,11 +162,11 @@ after_finished (deep y) = refl
 
 -- the three ways
 pub data MetCase (s s' : List ℕ) (arena : Arena) (work : ℕ) (z : states.Walk) (x : Span) (old : Bool) (r : Met) : Type 0 where
-  again : old ≡ true → r ≡ record { walk = charged work 1 z; list = x; deeper = false } → s' ≡ s → MetCase s s' arena work z x old r
-  refused : old ≡ false → ((charged work (1 + length_of x) z).reply.kind ≡ 0 → ⊥) → r ≡ record { walk = charged work (1 + length_of x) z; list = x; deeper = false } → s' ≡ s
+  again : old ≡ true → r ≡ record { walk = charged work 1 z; below = None } → s' ≡ s → MetCase s s' arena work z x old r
+  refused : old ≡ false → ((charged work (1 + length_of x) z).reply.kind ≡ 0 → ⊥) → r ≡ record { walk = charged work (1 + length_of x) z; below = None } → s' ≡ s
       → MetCase s s' arena work z x old r
   stored : old ≡ false → (charged work (1 + length_of x) z).reply.kind ≡ 0
-      → r ≡ record { walk = record { reply = (charged work (1 + length_of x) z).reply; known = x.end; expansions = (charged work (1 + length_of x) z).expansions }; list = x; deeper = true }
+      → r ≡ record { walk = record { reply = (charged work (1 + length_of x) z).reply; known = x.end; expansions = (charged work (1 + length_of x) z).expansions }; below = Some x }
       → s' ≡ kept_words (registry_of arena) (slot_at (registry_of arena) s x) z.known x s → MetCase s s' arena work z x old r
 
 pub met_case : {s s' : List ℕ} {arena : Arena} {work : ℕ} {z : states.Walk} {x : Span} {r : Met} (m : MeetsList s s' arena work z x r) → MetCase s s' arena work z x m.old r
@@ -160,7 +177,7 @@ met_case {s} {s'} {arena} {work} {z} {x} {r} m = go m.old m.result m.words
     paid = charged work (1 + length_of x) z
 
     by_kind : (b : Bool) → eqb paid.reply.kind 0 ≡ b
-        → r ≡ cond b (record { walk = record { reply = paid.reply; known = x.end; expansions = paid.expansions }; list = x; deeper = true }) (record { walk = paid; list = x; deeper = false })
+        → r ≡ cond b (record { walk = record { reply = paid.reply; known = x.end; expansions = paid.expansions }; below = Some x }) (record { walk = paid; below = None })
         → s' ≡ cond b (kept_words (registry_of arena) (slot_at (registry_of arena) s x) z.known x s) s → MetCase s s' arena work z x false r
     by_kind true e result words = stored refl (eqb-true _ _ e) result words
     by_kind false e result words = refused refl (eqb-false _ _ e) result words
@@ -179,7 +196,7 @@ module _ {s s' : List ℕ} {arena : Arena} {work : ℕ} {z : states.Walk} {x : S
     old_is = m.finds.answer refl z.known y.known l h.known list
 
     -- nothing is deeper: the charge is all
-    pub met_done : r.deeper ≡ false → (walked : Step) → Tells s' arena op r.walk (meet work l walked (is_known l y.known) y)
+    pub met_done : goes_deeper r ≡ false → (walked : Step) → Tells s' arena op r.walk (meet work l walked (is_known l y.known) y)
     unfolding meet enter cost_of
     met_done flat walked = rw (← old_is) (go (met_case m))
       where
@@ -189,10 +206,10 @@ module _ {s s' : List ℕ} {arena : Arena} {work : ℕ} {z : states.Walk} {x : S
             rw (old, words, result)
             (tells_stop s arena op (charged work (1 + length_of x) z) (charge work (1 + length l) y) (enter l walked false)
             (rw (← rows_are) (charge_tells s arena op work (1 + length_of x) z y h)) stop)
-        go (stored old go_on result words) = absurd (false≢true (sym flat ∙ ap (λ (k : Met). k.deeper) result))
+        go (stored old go_on result words) = absurd (false≢true (sym flat ∙ ap (λ (k : Met). goes_deeper k) result))
 
     -- a new list that is paid: it is known now, and its parts are walked
-    pub met_entered : r.deeper ≡ true → Fits (registry_of arena) (suc z.known) → x.start ≡ z.known + 1 → x.start ≤ x.end
+    pub met_entered : goes_deeper r ≡ true → Fits (registry_of arena) (suc z.known) → x.start ≡ z.known + 1 → x.start ≤ x.end
         → Holds s' arena op r.walk (paid_for l y) × (y.used + suc (length l) ≤ work)
         × ((walked : Step) → meet work l walked (is_known l y.known) y ≡ walked (paid_for l y))
     unfolding meet enter cost_of note after
@@ -200,8 +217,8 @@ module _ {s s' : List ℕ} {arena : Arena} {work : ℕ} {z : states.Walk} {x : S
       where
         go : MetCase s s' arena work z x m.old r → Holds s' arena op r.walk (paid_for l y) × (y.used + suc (length l) ≤ work)
             × ((walked : Step) → meet work l walked (is_known l y.known) y ≡ walked (paid_for l y))
-        go (again old result words) = absurd (false≢true (sym (ap (λ (k : Met). k.deeper) result) ∙ deeper))
-        go (refused old stop result words) = absurd (false≢true (sym (ap (λ (k : Met). k.deeper) result) ∙ deeper))
+        go (again old result words) = absurd (false≢true (sym (ap (λ (k : Met). goes_deeper k) result) ∙ deeper))
+        go (refused old stop result words) = absurd (false≢true (sym (ap (λ (k : Met). goes_deeper k) result) ∙ deeper))
         go (stored old go_on result words) =
             let n = length_of x in
             let paid = charge_paid s arena op work (1 + n) z y h go_on in

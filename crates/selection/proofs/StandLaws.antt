@@ -23,7 +23,8 @@ use Rattle.selection.specs.Regions.{Places}
 use Rattle.selection.specs.Linking.{class_at, next_at, first_at, Linked, Linkable, Links}
 use Rattle.selection.specs.Standing.{names_chain, pairs_chain, Stands, LinkFrame, LinkableBoth, Stood}
 use Rattle.selection.specs.Places.{row_in}
-use Rattle.selection.specs.Grouping.{segment, one_parent, abstract_parent, has_object_parent, belongs, name_at, parent_at, name_segment, pair_segment, Grounded}
+use Rattle.selection.specs.declared.groups.Among.TheVariants.{One, Abstract}
+use Rattle.selection.specs.Grouping.{segment, has_object_parent, belongs, name_at, parent_at, name_segment, pair_segment, Grounded}
 use Rattle.selection.specs.Following.{link_at, Threaded}
 use Rattle.selection.specs.Refining.{document, Site, Rows, Kept}
 use Rattle.lists.proofs.Parts.{stores_same}
@@ -149,7 +150,7 @@ unfolding same_parent
 pair_belongs image s store p row = go (has_object_parent image s (row_in s store p))
   where
     go : (b : Bool) → (eqb (response_name image row) (name_at image s store p) && cond b (eqb (get_or s row 0) (parent_at image s store p)) (not (eqb (type_kind image (get_or s row 0)) object_type)))
-        ≡ belongs image s (cond b (segment (name_at image s store p) one_parent (parent_at image s store p)) (segment (name_at image s store p) abstract_parent 0)) row
+        ≡ belongs image s (cond b (segment (name_at image s store p) (One (parent_at image s store p))) (segment (name_at image s store p) Abstract)) row
     go true = sym (belongs_parent image s (name_at image s store p) (parent_at image s store p) row)
     go false = sym (belongs_others image s (name_at image s store p) row)
 

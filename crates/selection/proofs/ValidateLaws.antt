@@ -18,7 +18,7 @@ use Rattle.selection.specs.declared.arena.Walk as states
 use Rattle.expand.specs.ImageDocument.{document_by, limit_of_links}
 use Rattle.selection.specs.Regions.{arena_of, Places}
 use Rattle.selection.specs.Refining.{document, pass_of, reply_of, most_work, Holds, Tells, Ample, Site}
-use Rattle.selection.specs.Validating.{Within, Runs, Checkable, Validates}
+use Rattle.selection.specs.Validating.{at_start, Within, Runs, Checkable, Validates}
 use Rattle.lists.proofs.ClearLaws.{Cleared, cleared}
 use Rattle.selection.proofs.RegionLaws.{places, chain_fits, links_fit}
 use Rattle.selection.proofs.StandLaws.{classed_kept, in_front}
@@ -38,10 +38,6 @@ both_passes : (image : List ℕ) (budget work used operation : ℕ) → budget �
     → after (walk (document image) (pass_of image true) stop operation budget (suc limit_of_links) (operation ∷ []) (begin used)) (second_pass image budget operation) ≡ check (document image) work used operation
 unfolding check passes pass document_by
 both_passes image budget work used operation e = rw e
-
--- the state at the start
-abbrev pub at_start : ℕ → ℕ → states.Walk
-at_start operation used = record { reply = record { kind = 0; operation = operation; a = 0; b = 0; used = used }; known = 0; expansions = 0 }
 
 pub ample_start : (work : ℕ) {budget : ℕ} (operation used : ℕ) → budget ≡ min work most_work → Ample budget 0 (at_start operation used)
 ample_start work operation used e = record { going = refl; paid = omega arith; few = omega arith; counted = omega arith; countable = omega arith; budget = omega (arith, e) }

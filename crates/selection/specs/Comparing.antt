@@ -3,7 +3,11 @@ use Rattle.std.specs.Prelude.{◌≡◌, Bool, true, false, cond, not, ◌&&◌,
 use Rattle.std.proofs.Math.Option.{Option, none, some}
 use Rattle.lists.specs.Part.{Stores, Outside}
 use Rattle.merge_theory.specs.Lists.{filter}
-use Rattle.merge_theory.specs.Document.{Cause, number_of}
+use Rattle.std.specs.Prelude as options
+use Rattle.std.specs.Prelude.{Some, None}
+use Rattle.merge_theory.specs.Document.{Cause, shape, name, arguments, number_of}
+use Rattle.selection.specs.declared.walk.Clash.{Clash}
+use Rattle.selection.specs.declared.walk.Clash.TheVariants.{Shape, Name, Arguments}
 use Rattle.merge_theory.specs.Steps.{State, stop}
 use Rattle.merge_theory.specs.Walk.{against, compare_first, sets_below}
 use Rattle.tables.specs.Layout.{NONE}
@@ -26,6 +30,15 @@ use Rattle.selection.specs.Refining.{document, pass_of, Holds, Tells, Site, Rows
 abbrev pub kind_of_clash : Option Cause → ℕ
 kind_of_clash none = 0
 kind_of_clash (some c) = number_of c
+
+abbrev pub cause_of : Clash → Cause
+cause_of Shape = shape
+cause_of Name = name
+cause_of Arguments = arguments
+
+abbrev pub clash_shows : options.Option Clash → Option Cause
+clash_shows None = none
+clash_shows (Some c) = some (cause_of c)
 
 -- the state with a conflict
 abbrev pub conflicted : ℕ → ℕ → ℕ → states.Walk → states.Walk
@@ -58,6 +71,9 @@ pub record ComparesPart (image s : List ℕ) (arena : Arena) (z : states.Walk) (
 -- whether a field has a set that is not empty
 unfoldable pub has_set : List ℕ → ℕ → Bool
 has_set image row = not (eqb (selection_target image row) NONE) && not (is_empty_set image (selection_target image row))
+
+abbrev pub filled_set : List ℕ → ℕ → options.Option ℕ
+filled_set image row = cond (has_set image row) (Some (selection_target image row)) None
 
 unfoldable pub field_next : List ℕ → Arena → Expansion → ℕ → Expansion
 field_next image arena x row = cond (has_set image row) (queue_next (area_of arena) x) x

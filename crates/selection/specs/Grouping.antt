@@ -5,39 +5,33 @@ use Rattle.merge_theory.specs.Lists.{filter}
 use Rattle.merge_theory.specs.Document.{Document}
 use Rattle.tables.specs.Columns.{object_type, type_kind, response_name}
 use Rattle.lists.specs.declared.Span.{Span}
+use Rattle.selection.specs.declared.groups.Among.{Among}
+use Rattle.selection.specs.declared.groups.Among.TheVariants.{Every, One, Abstract}
 use Rattle.selection.specs.declared.groups.Segment.{Segment}
 use Rattle.selection.specs.declared.groups.Cursor.{Cursor}
 use Rattle.selection.specs.declared.groups.Part.{Part}
 use Rattle.lists.specs.Part.{StoredAt}
 use Rattle.selection.specs.Places.{seek, row_in, onward}
 
--- kinds of segments: all fields of a name, those of one parent, those whose parent is no object
-abbrev pub every_parent : ℕ
-every_parent = 0
-
-abbrev pub one_parent : ℕ
-one_parent = 1
-
-abbrev pub abstract_parent : ℕ
-abstract_parent = 2
-
--- whether a field of this parent is in the segment
-unfoldable pub of_kind : Segment → (parent : ℕ) (is_object : Bool) → Bool
-of_kind g parent is_object = cond (eqb g.kind every_parent) true (cond (eqb g.kind one_parent) (eqb parent g.parent) (not is_object))
+-- whether a field of this parent is in a segment: among all fields of a name, those of one parent, or those whose parent is no object
+unfoldable pub is_among : Among → (parent : ℕ) (is_object : Bool) → Bool
+is_among Every parent is_object = true
+is_among (One only) parent is_object = eqb parent only
+is_among Abstract parent is_object = not is_object
 
 -- the same of a document's field
 unfoldable pub member : Document → Segment → ℕ → Bool
-member D g f = eqb (D.name_of f) g.name && of_kind g (D.parent_of f) (D.is_object (D.parent_of f))
+member D g f = eqb (D.name_of f) g.name && is_among g.among (D.parent_of f) (D.is_object (D.parent_of f))
 
-abbrev pub segment : (name kind parent : ℕ) → Segment
-segment name kind parent = record { name = name; kind = kind; parent = parent }
+abbrev pub segment : (name : ℕ) → Among → Segment
+segment name among = record { name = name; among = among }
 
 module _ (image s : List ℕ) where
   abbrev pub has_object_parent : ℕ → Bool
   has_object_parent row = eqb (type_kind image (get_or s row 0)) object_type
 
   unfoldable pub belongs : Segment → ℕ → Bool
-  belongs g row = eqb (response_name image row) g.name && of_kind g (get_or s row 0) (has_object_parent row)
+  belongs g row = eqb (response_name image row) g.name && is_among g.among (get_or s row 0) (has_object_parent row)
 
   module _ (store : ℕ) where
     -- the first place from one place on, and below another, that has a field of the segment
@@ -52,11 +46,11 @@ module _ (image s : List ℕ) where
 
     -- the segments that a field is in: that of its name, and that of its name and parent
     abbrev pub name_segment : ℕ → Segment
-    name_segment place = segment (name_at place) every_parent 0
+    name_segment place = segment (name_at place) Every
 
     abbrev pub pair_segment : ℕ → Segment
     pair_segment place =
-        cond (has_object_parent (row_in s store place)) (segment (name_at place) one_parent (parent_at place)) (segment (name_at place) abstract_parent 0)
+        cond (has_object_parent (row_in s store place)) (segment (name_at place) (One (parent_at place))) (segment (name_at place) Abstract)
 
     module _ (x : Span) where
       -- no earlier field of the list has this one's response name
@@ -67,7 +61,7 @@ module _ (image s : List ℕ) where
       unfoldable pub opens_subgroup : ℕ → ℕ → Bool
       opens_subgroup name place =
           eqb (name_at place) name && (has_object_parent (row_in s store place)
-          && eqb (member_place (segment name one_parent (parent_at place)) x.start place) place)
+          && eqb (member_place (segment name (One (parent_at place))) x.start place) place)
 
       abbrev pub group_place : ℕ → ℕ
       group_place from = seek is_first_of_name from x.end
@@ -77,7 +71,7 @@ module _ (image s : List ℕ) where
 
       -- the first field of a group whose parent is no object
       abbrev pub others_place : ℕ → ℕ
-      others_place group = member_place (segment (name_at group) abstract_parent 0) group x.end
+      others_place group = member_place (segment (name_at group) Abstract) group x.end
 
       -- a group's first subgroup: that of its first object parent, or all of it where there is none
       abbrev pub opening : (group place : ℕ) → Cursor
@@ -100,7 +94,7 @@ module _ (image s : List ℕ) where
       whole_part first g = record { list = x; first = first; front = g; next = x.end; back = g }
 
       unfoldable pub group_part : ℕ → Part
-      group_part group = whole_part group (segment (name_at group) every_parent 0)
+      group_part group = whole_part group (segment (name_at group) Every)
 
       unfoldable pub subgroup_part : Cursor → Part
       subgroup_part c =
@@ -108,11 +102,16 @@ module _ (image s : List ℕ) where
           (record {
             list = x;
             first = c.first;
-            front = segment (name_at c.group) one_parent (parent_at c.first);
+            front = segment (name_at c.group) (One (parent_at c.first));
             next = c.others;
-            back = segment (name_at c.group) abstract_parent 0;
+            back = segment (name_at c.group) Abstract;
           })
-          (whole_part c.first (segment (name_at c.group) abstract_parent 0))
+          (whole_part c.first (segment (name_at c.group) Abstract))
+
+      -- the part of a cursor: in the shape pass its whole group
+      abbrev pub part_in : Bool → Cursor → Part
+      part_in true c = group_part c.group
+      part_in false c = subgroup_part c
 
 -- the fields of a part, in order
 unfoldable pub part_rows : Document → List ℕ → Part → List ℕ
@@ -127,9 +126,9 @@ pub record Grounded (D : Document) (image s : List ℕ) (store : ℕ) (x : Span)
 
 -- the segments of parts: one parent is an object, and in the shape pass there are segments of all parents alone
 pub data Proper (D : Document) (isShape : Bool) : Segment → Type 0 where
-  of_all : (name : ℕ) → Proper D isShape (segment name every_parent 0)
-  of_object : isShape ≡ false → (name parent : ℕ) → D.is_object parent ≡ true → Proper D isShape (segment name one_parent parent)
-  of_others : isShape ≡ false → (name : ℕ) → Proper D isShape (segment name abstract_parent 0)
+  of_all : (name : ℕ) → Proper D isShape (segment name Every)
+  of_object : isShape ≡ false → (name parent : ℕ) → D.is_object parent ≡ true → Proper D isShape (segment name (One parent))
+  of_others : isShape ≡ false → (name : ℕ) → Proper D isShape (segment name Abstract)
 
 -- a part of a list l that stands in the words: its first field is one of the front segment's, the next one, if there is one, of the
 -- back segment's, and its fields are these rows

@@ -1,5 +1,6 @@
 -- What the contracts cite.
 pub mod Regions
+pub mod Passes
 pub mod Parents
 pub mod Places
 pub mod Classes

@@ -6,12 +6,12 @@
 --     Rows ..                what is known of the rows of a list
 --     Kept ..                what stays: the parents, the known lists and their links, and what lies behind the room
 --     Refines step ..        code that goes from s and z to s' and z' does what the step does
-use Rattle.std.specs.Prelude.{◌≡◌, Bool, true, false, cond, List, ℕ, zero, suc, ◌+◌, ◌-◌, ◌*◌, ◌≤◌, ◌<◌, eqb, leb, length, get_or}
+use Rattle.std.specs.Prelude.{◌≡◌, Bool, true, false, cond, Option, Some, None, Result, Ok, Err, is_some, List, ℕ, zero, suc, ◌+◌, ◌-◌, ◌*◌, ◌≤◌, ◌<◌, eqb, leb, length, get_or}
 use Rattle.lists.specs.Part.{Stores}
 use Rattle.merge_theory.specs.Lists.{Every}
 use Rattle.merge_theory.specs.Document.{Document, number_of, FieldAt, Sound}
 use Rattle.merge_theory.specs.Rule.{Reached}
-use Rattle.merge_theory.specs.Steps.{entry, State, Result, finished, conflict, out, deep, Step, ◌then◌, stop}
+use Rattle.merge_theory.specs.Steps.{entry, State, finished, conflict, out, deep, Step, ◌then◌, stop}
 use Rattle.merge_theory.specs.Steps as steps
 use Rattle.merge_theory.specs.Walk.{Pass, shape_pass, parent_pass, compare_first, descend, sets_below, noted, walk_parts, walk}
 use Rattle.tables.specs.Layout.{selections}
@@ -44,7 +44,7 @@ pass_of image false = parent_pass (document image)
 
 -- ---- what a state says
 
-abbrev pub reply_of : ℕ → Result → Reply
+abbrev pub reply_of : ℕ → steps.Result → Reply
 reply_of op (finished y) = record { kind = 0; operation = op; a = 0; b = 0; used = y.used }
 reply_of op (conflict (entry s c a b) y) = record { kind = number_of c; operation = op; a = a; b = b; used = y.used }
 reply_of op (out y) = record { kind = 17; operation = op; a = 0; b = 0; used = y.used }
@@ -55,7 +55,7 @@ pub record Holds (s : List ℕ) (arena : Arena) (op : ℕ) (z : states.Walk) (y 
   pub known : Known (registry_of arena) s z.known y.known
   pub reply : z.reply ≡ reply_of op (finished y)
 
-abbrev pub Tells : List ℕ → Arena → ℕ → states.Walk → Result → Type 0
+abbrev pub Tells : List ℕ → Arena → ℕ → states.Walk → steps.Result → Type 0
 Tells s arena op z (finished y) = Holds s arena op z y
 Tells s arena op z (conflict e y) = z.reply ≡ reply_of op (conflict e y)
 Tells s arena op z (out y) = z.reply ≡ reply_of op (out y)
@@ -81,6 +81,17 @@ charged work cost z =
       expansions = z.expansions;
     })
 
+-- the list that the walk goes into, and whether there is one
+abbrev pub goes_deeper : Met → Bool
+goes_deeper m = is_some m.below
+
+abbrev pub span_in : Option Span → Span
+span_in (Some x) = x
+span_in None = record { start = 0; end = 0 }
+
+abbrev pub list_of : Met → Span
+list_of m = span_in m.below
+
 abbrev pub length_of : Span → ℕ
 length_of x = x.end - x.start
 
@@ -88,12 +99,12 @@ length_of x = x.end - x.start
 unfoldable pub entered : Span → states.Walk → Met
 entered x paid =
     cond (eqb paid.reply.kind 0)
-    (record { walk = record { reply = paid.reply; known = x.end; expansions = paid.expansions }; list = x; deeper = true })
-    (record { walk = paid; list = x; deeper = false })
+    (record { walk = record { reply = paid.reply; known = x.end; expansions = paid.expansions }; below = Some x })
+    (record { walk = paid; below = None })
 
 unfoldable pub met_list : ℕ → states.Walk → Span → Bool → Met
 met_list work z x old =
-    cond old (record { walk = charged work 1 z; list = x; deeper = false }) (entered x (charged work (1 + length_of x) z))
+    cond old (record { walk = charged work 1 z; below = None }) (entered x (charged work (1 + length_of x) z))
 
 unfoldable pub met_words : Arena → ℕ → states.Walk → Span → Bool → List ℕ → List ℕ
 met_words arena work z x old s =
@@ -104,6 +115,39 @@ pub record MeetsList (s s' : List ℕ) (arena : Arena) (work : ℕ) (z : states.
   pub finds : Finds (registry_of arena) s (slot_at (registry_of arena) s x) x old
   pub result : r ≡ met_list work z x old
   pub words : s' ≡ met_words arena work z x old s
+
+-- ---- where a walk stops
+
+-- the state z once the walk stopped there, with that reply
+abbrev pub stopped : states.Walk → Reply → states.Walk
+stopped z r = record { reply = r; known = z.known; expansions = z.expansions }
+
+-- what a walk from z on ends in
+abbrev pub ended : states.Walk → Result states.Walk Reply → states.Walk
+ended z (Ok z') = z'
+ended z (Err r) = stopped z r
+
+-- the same of one that leaves the state alone where it goes on, and of one that meets a list
+abbrev pub ended_here : states.Walk → Result Unit Reply → states.Walk
+ended_here z (Ok _) = z
+ended_here z (Err r) = stopped z r
+
+abbrev pub met_from : states.Walk → Result Met Reply → Met
+met_from z (Ok m) = m
+met_from z (Err r) = record { walk = stopped z r; below = None }
+
+-- a reply that ends a walk has a kind, and a state that goes on has none yet
+abbrev pub Stops : Result Unit Reply → Type 0
+Stops (Ok _) = Unit {0}
+Stops (Err r) = r.kind ≡ 0 → ⊥
+
+abbrev pub Ends : Result states.Walk Reply → Type 0
+Ends (Ok z) = z.reply.kind ≡ 0
+Ends (Err r) = r.kind ≡ 0 → ⊥
+
+abbrev pub EndsMet : Result Met Reply → Type 0
+EndsMet (Ok m) = m.walk.reply.kind ≡ 0
+EndsMet (Err r) = r.kind ≡ 0 → ⊥
 
 -- ---- whatever the image is
 
@@ -175,10 +219,10 @@ module _ (image : List ℕ) (arena : Arena) (work op : ℕ) where
   -- a list that was entered: it stands in the store, and the step goes on as its walk
   pub record Entered (isShape : Bool) (step : ℕ → Step) (s s' : List ℕ) (z : states.Walk) (m : Met) : Type 0 where
     pub list : List ℕ
-    pub stands : Stands arena isShape s' m.list list
-    pub ordered : m.list.start ≤ m.list.end
+    pub stands : Stands arena isShape s' (list_of m) list
+    pub ordered : (list_of m).start ≤ (list_of m).end
     pub rows : Rows list
-    pub stored : m.list.end ≤ m.walk.known
+    pub stored : (list_of m).end ≤ m.walk.known
     pub site : Site s' m.walk
     pub kept : Kept s s' z m.walk
     pub goes : (y : State) → Holds s arena op z y
@@ -188,8 +232,8 @@ module _ (image : List ℕ) (arena : Arena) (work op : ℕ) where
 
   -- what has been met: the step is done, or a list was entered
   pub record Meets (isShape : Bool) (step : ℕ → Step) (s s' : List ℕ) (z : states.Walk) (m : Met) : Type 0 where
-    pub done : m.deeper ≡ false → (levels : ℕ) → Refines (step levels) s s' z m.walk
-    pub entered : m.deeper ≡ true → Entered isShape step s s' z m
+    pub done : goes_deeper m ≡ false → (levels : ℕ) → Refines (step levels) s s' z m.walk
+    pub entered : goes_deeper m ≡ true → Entered isShape step s s' z m
 
   -- sets that stand in the queue: what may be merged
   pub record Queued (s : List ℕ) (x : Expansion) (sets : List ℕ) : Type 0 where
@@ -201,7 +245,7 @@ module _ (image : List ℕ) (arena : Arena) (work op : ℕ) where
 -- merged sets are expanded, and their list is met
 pub record MeetsSets (image : List ℕ) (arena : Arena) (work : ℕ) (s s' : List ℕ) (z : states.Walk) (x : Expansion) (isShape : Bool) (m : Met) : Type 0 where
   pub operation : m.walk.reply.operation ≡ z.reply.operation
-  pub going : m.deeper ≡ true → m.walk.reply.kind ≡ 0
+  pub going : goes_deeper m ≡ true → m.walk.reply.kind ≡ 0
   pub ample : m.walk.reply.kind ≡ 0 → Ample work 0 m.walk
   pub meets : (sets : List ℕ) → Site image arena work z.reply.operation s z → Queued image arena work z.reply.operation s x sets
       → Meets image arena work z.reply.operation isShape (λ levels. walk (document image) (pass_of image isShape) stop z.reply.operation work levels sets) s s' z m
@@ -209,7 +253,7 @@ pub record MeetsSets (image : List ℕ) (arena : Arena) (work : ℕ) (s s' : Lis
 -- one part: compared, and its sets met
 pub record MeetsPart (image : List ℕ) (arena : Arena) (work : ℕ) (s s' : List ℕ) (z : states.Walk) (part : Part) (isShape : Bool) (m : Met) : Type 0 where
   pub operation : m.walk.reply.operation ≡ z.reply.operation
-  pub going : m.deeper ≡ true → m.walk.reply.kind ≡ 0
+  pub going : goes_deeper m ≡ true → m.walk.reply.kind ≡ 0
   pub ample : m.walk.reply.kind ≡ 0 → Ample work 0 m.walk
   pub meets : (l rows : List ℕ) → Site image arena work z.reply.operation s z → Stands arena isShape s part.list l → part.list.start ≤ part.list.end
       → Rows image arena work z.reply.operation l → PartAt (document image) isShape s arena.store l part rows → Rows image arena work z.reply.operation rows

@@ -14,7 +14,11 @@ use Rattle.selection.specs.declared.walk.Met.{Met}
 use Rattle.expand.specs.ImageDocument.{limit_of_links}
 use Rattle.selection.specs.Regions.{arena_of}
 use Rattle.selection.specs.Classes.{Prepared}
-use Rattle.selection.specs.Refining.{document, pass_of, reply_of, most_work, Tells, Ample, Site, Meets}
+use Rattle.selection.specs.Refining.{document, pass_of, reply_of, most_work, Tells, Ample, Site, goes_deeper, Meets}
+
+-- the state at the start
+abbrev pub at_start : ℕ → ℕ → states.Walk
+at_start operation used = record { reply = record { kind = 0; operation = operation; a = 0; b = 0; used = used }; known = 0; expansions = 0 }
 
 -- a state that has forgotten the lists of another pass
 abbrev pub forgotten : states.Walk → states.Walk
@@ -29,7 +33,7 @@ pub record Within (image : List ℕ) (arena : Arena) (work : ℕ) (s s' : List �
 -- the operation's own set is met, with nothing known
 pub record MeetsOperation (image : List ℕ) (arena : Arena) (work operation : ℕ) (s s' : List ℕ) (z : states.Walk) (isShape : Bool) (m : Met) : Type 0 where
   pub same : m.walk.reply.operation ≡ z.reply.operation
-  pub going : m.deeper ≡ true → m.walk.reply.kind ≡ 0
+  pub going : goes_deeper m ≡ true → m.walk.reply.kind ≡ 0
   pub ample : m.walk.reply.kind ≡ 0 → Ample work 0 m.walk
   pub meets : Site image arena work z.reply.operation s z → operation ≡ z.reply.operation → operation < count_at image operations
       → Meets image arena work z.reply.operation isShape (λ levels. walk (document image) (pass_of image isShape) stop z.reply.operation work levels (operation ∷ [])) s s' (forgotten z) m

@@ -4,7 +4,6 @@ ghost use Rattle.selection.specs.Regions.{rows_at_most, arena_of, area_of, regis
 
 use expand::Area;
 use known::Registry;
-use lists::least;
 use tables::{FRAGMENTS, SELECTIONS, SETS, count, most_rows, word};
 
 // No budget is larger.
@@ -26,6 +25,7 @@ pub struct Arena {
     pub store: u32,
 }
 
+// The five words that the door hands to C; in `kind` 0 stands for no finding.
 #[derive(Clone, Copy)]
 pub struct Reply {
     pub kind: u32,
@@ -47,63 +47,65 @@ pub struct Walk {
 pub(crate) fn rows_at_most(image: &[u32], table: u8) -> u32
     ensures { (result ≡ rows_at_most image.now table) × (result ≤ 16384) }
 {
-    least(count(image, table), most_rows(word(image, 0), table))
+    count(image, table).min(most_rows(word(image, 0), table))
 }
 
-// A list takes as many places as it costs, so the paid ones fit into `work`; the one at hand has a length and at most all
-// selections.
-pub fn arena_of(image: &[u32], work: u32) -> Arena
-    ensures { result ≡ arena_of image.now work }
-{
-    let rows = rows_at_most(image, SELECTIONS);
-    let pairs = rows + rows;
-    let marks = pairs + rows;
-    let queue = marks + rows_at_most(image, FRAGMENTS);
-    let lasts = queue + rows_at_most(image, SETS);
-    let heads = lasts + rows;
-    let chain = heads + rows + 1;
-    let room = least(work, MOST_WORK) + 1 + rows;
-    let links = chain + room;
-    let store = links + 4 * room;
-    Arena {
-        names: rows,
-        pairs,
-        marks,
-        queue,
-        lasts,
-        heads,
-        chain,
-        links,
-        store,
+impl Arena {
+    // A list takes as many places as it costs, so the paid ones fit into `work`; the one at hand has a length and at most all
+    // selections.
+    pub fn of(image: &[u32], work: u32) -> Arena
+        ensures { result ≡ arena_of image.now work }
+    {
+        let rows = rows_at_most(image, SELECTIONS);
+        let pairs = rows + rows;
+        let marks = pairs + rows;
+        let queue = marks + rows_at_most(image, FRAGMENTS);
+        let lasts = queue + rows_at_most(image, SETS);
+        let heads = lasts + rows;
+        let chain = heads + rows + 1;
+        let room = work.min(MOST_WORK) + 1 + rows;
+        let links = chain + room;
+        Arena {
+            names: rows,
+            pairs,
+            marks,
+            queue,
+            lasts,
+            heads,
+            chain,
+            links,
+            store: links + 4 * room,
+        }
     }
-}
 
-// The regions of an expansion, and those of the known lists.
-pub(crate) fn area_of(arena: Arena) -> Area
-    ensures { result ≡ area_of arena }
-{
-    Area {
-        marks: arena.marks,
-        queue: arena.queue,
-        end: arena.lasts,
-        store: arena.store,
+    // The regions of an expansion.
+    pub(crate) fn area(self) -> Area
+        ensures { result ≡ area_of self }
+    {
+        Area {
+            marks: self.marks,
+            queue: self.queue,
+            end: self.lasts,
+            store: self.store,
+        }
     }
-}
 
-pub(crate) fn registry_of(arena: Arena) -> Registry
-    ensures { result ≡ registry_of arena }
-{
-    Registry {
-        heads: arena.heads,
-        keys: arena.names,
-        chain: arena.chain,
-        store: arena.store,
+    // The regions of the known lists.
+    pub(crate) fn registry(self) -> Registry
+        ensures { result ≡ registry_of self }
+    {
+        Registry {
+            heads: self.heads,
+            keys: self.names,
+            chain: self.chain,
+            store: self.store,
+        }
     }
-}
 
-// Where a word of a place's links stands.
-pub fn in_links(arena: Arena, place: u32, column: u32) -> usize
-    ensures { result ≡ arena.links + 4 * place + column }
-{
-    (arena.links as usize) + 4 * (place as usize) + (column as usize)
+    // Where a word of a place's links stands.
+    pub fn in_links(self, place: u32, column: u32) -> usize
+        ensures { result ≡ self.links + 4 * place + column }
+    {
+        (self.links as usize) + 4 * (place as usize) + (column as usize)
+    }
 }

@@ -3,24 +3,21 @@
 ghost use Rattle.std.specs.Prelude.{◌≡◌, ◌+◌, ◌*◌, ◌≤◌};
 ghost use Rattle.tables.specs.Layout.{types, selections};
 ghost use Rattle.tables.specs.Columns.{response_name};
-ghost use Rattle.index.specs.Indexed.{Firsts};
 ghost use Rattle.selection.specs.Regions.{rows_at_most};
 ghost use Rattle.selection.specs.Classing.{parent_class, index_of, pair_key, Keys, Classes};
 
 use crate::arena::rows_at_most;
-use index::{Index, build_firsts};
-use lists::{get, in_region, least, put};
-use tables::columns::{OBJECT, response_name, type_kind};
+use crate::parents::is_object;
+use index::Index;
+use lists::{get, in_region, put};
+use tables::columns::response_name;
 use tables::{SELECTIONS, TYPES};
 
 // The class of a parent: itself if it is an object type, else the number of types, which all others share.
 fn parent_class(image: &[u32], types: u32, parent: u32) -> u32
     ensures { (result ≡ parent_class image.now types parent) × (result ≤ types) }
 {
-    if types <= parent {
-        return types;
-    }
-    if type_kind(image, parent) == OBJECT {
+    if parent < types && is_object(image, parent) {
         parent
     } else {
         types
@@ -31,8 +28,10 @@ fn parent_class(image: &[u32], types: u32, parent: u32) -> u32
 fn index_of(rows: u32) -> Index
     ensures { result ≡ index_of rows }
 {
-    let at = 3 * (rows as usize);
-    Index { at, count: rows }
+    Index {
+        at: 3 * (rows as usize),
+        count: rows,
+    }
 }
 
 // Where the key of a row stands.
@@ -46,10 +45,8 @@ fn key_place(rows: u32, row: u32) -> usize
 fn write_names(image: &[u32], s: &mut [u32], rows: u32)
     ensures { Keys (λ k. response_name image.now k) rows s.old s.new }
 {
-    let mut row: u32 = 0;
-    while row < rows {
+    for row in 0..rows {
         put(s, key_place(rows, row), response_name(image, row));
-        row += 1;
     }
 }
 
@@ -58,28 +55,19 @@ fn pair_key(image: &[u32], s: &[u32], rows: u32, types: u32, row: u32) -> u32
     requires { (rows ≤ 16384) × (types ≤ 16384) }
     ensures { result ≡ pair_key image.now types s.now rows row }
 {
-    let class = least(get(s, in_region(rows, row)), rows);
+    let class = get(s, in_region(rows, row)).min(rows);
     class * (types + 1) + parent_class(image, types, get(s, row as usize))
 }
 
-// The keys become those of pairs.
+// The keys become those of pairs. Beside the loop of names this one stays: what it computes reads the slice that it writes.
 fn write_pairs(image: &[u32], s: &mut [u32], rows: u32, types: u32)
     requires { (rows ≤ 16384) × (types ≤ 16384) }
     ensures { Keys (λ k. pair_key image.now types s.old rows k) rows s.old s.new }
 {
-    let mut row: u32 = 0;
-    while row < rows {
+    for row in 0..rows {
         let key = pair_key(image, &s[..], rows, types, row);
         put(s, key_place(rows, row), key);
-        row += 1;
     }
-}
-
-// For each row, the first one that has its key.
-fn write_firsts(s: &mut [u32], rows: u32, to: u32)
-    ensures { Firsts s.old (index_of rows) to s.new }
-{
-    build_firsts(s, index_of(rows), to as usize);
 }
 
 // The classes of all selections. The words before them are the parents of their sets.
@@ -88,8 +76,9 @@ pub fn write_classes(image: &[u32], s: &mut [u32])
 {
     let rows = rows_at_most(image, SELECTIONS);
     let types = rows_at_most(image, TYPES);
+    let index = index_of(rows);
     write_names(image, s, rows);
-    write_firsts(s, rows, rows);
+    index.build_firsts(s, rows as usize);
     write_pairs(image, s, rows, types);
-    write_firsts(s, rows, 2 * rows);
+    index.build_firsts(s, 2 * (rows as usize));
 }

@@ -3,35 +3,39 @@
 // finds is said of a list that is linked.
 ghost use Rattle.std.specs.Prelude.{◌≡◌, ◌<◌, get_or};
 ghost use Rattle.selection.specs.Places.{row_in};
-ghost use Rattle.selection.specs.Grouping.{has_object_parent, group_part, subgroup_part};
-ghost use Rattle.selection.specs.Following.{link_at, column_of, followed, group_found, opens_at, FindsSubgroup, FindsOthers, FirstSubgroup, LaterSubgroup, NextSubgroup};
+ghost use Rattle.selection.specs.Grouping.{has_object_parent, group_part, subgroup_part, part_in};
+ghost use Rattle.selection.specs.Passes.{is_shape};
+ghost use Rattle.selection.specs.Following.{link_column, link_at, column_of, followed, group_found, opens_at, FindsSubgroup, FindsOthers, FirstSubgroup, LaterSubgroup, NextSubgroup, Enters, FirstPart, NextPart};
 
-use crate::arena::{Arena, in_links};
+use crate::arena::Arena;
+use crate::parents::is_object;
+use crate::pass::Pass;
 use lists::{Span, get, in_region};
-use tables::columns::{OBJECT, response_name, type_kind};
+use tables::columns::response_name;
 
-// Fields of one name: all of them, those of one parent, or those whose parent is no object.
+// Which parents a segment's fields have: any, one alone, or those that are no objects.
+#[derive(Clone, Copy)]
+pub enum Among {
+    Every,
+    One(u32),
+    Abstract,
+}
+
+// Fields of one name, and of those parents.
 #[derive(Clone, Copy)]
 pub struct Segment {
     pub name: u32,
-    pub kind: u32,
-    pub parent: u32,
+    pub among: Among,
 }
 
-pub const EVERY_PARENT: u32 = 0;
-
-pub const ONE_PARENT: u32 = 1;
-
-pub const ABSTRACT_PARENT: u32 = 2;
-
 // The four words of links of a place: the next and the first of its name, then of its name and parent.
-const NEXT_OF_NAME: u32 = 0;
-
-const FIRST_OF_NAME: u32 = 1;
-
-const NEXT_OF_PARENT: u32 = 2;
-
-const FIRST_OF_PARENT: u32 = 3;
+#[derive(Clone, Copy)]
+pub enum Link {
+    NextOfName,
+    FirstOfName,
+    NextOfParent,
+    FirstOfParent,
+}
 
 // What is compared, and whose sets are merged: the fields of a segment from a first one on, then those of another.
 #[derive(Clone, Copy)]
@@ -51,12 +55,64 @@ pub struct Cursor {
     pub others: u32,
 }
 
-pub fn row_at(s: &[u32], arena: Arena, place: u32) -> u32
-    ensures { result ≡ row_in s.now arena.store place }
-{
-    get(s, in_region(arena.store, place))
+// A list that stands in the words, linked.
+#[derive(Clone, Copy)]
+pub struct Listed<'i, 'w> {
+    pub image: &'i [u32],
+    pub words: &'w [u32],
+    pub arena: Arena,
+    pub list: Span,
 }
 
+impl Link {
+    fn column(self) -> u32
+        ensures { result ≡ link_column self }
+    {
+        match self {
+            Link::NextOfName => 0,
+            Link::FirstOfName => 1,
+            Link::NextOfParent => 2,
+            Link::FirstOfParent => 3,
+        }
+    }
+}
+
+impl Among {
+    // Which link leads to the next of a segment.
+    fn next(self) -> Link
+        ensures { link_column result ≡ column_of self }
+    {
+        match self {
+            Among::Every => Link::NextOfName,
+            Among::One(_) | Among::Abstract => Link::NextOfParent,
+        }
+    }
+}
+
+impl Arena {
+    pub(crate) fn row_at(self, s: &[u32], place: u32) -> u32
+        ensures { result ≡ row_in s.now self.store place }
+    {
+        get(s, in_region(self.store, place))
+    }
+
+    // A word of a place's links.
+    fn link_at(self, s: &[u32], place: u32, link: Link) -> u32
+        ensures { result ≡ link_at s.now self place (link_column link) }
+    {
+        get(s, self.in_links(place, link.column()))
+    }
+
+    // The next place of a segment, from one of its places; the end where there is none, which is what the links say in place of a None.
+    pub(crate) fn follow(self, s: &[u32], among: Among, place: u32, end: u32) -> u32
+        ensures { result ≡ followed s.now self among place end }
+    {
+        let next = self.link_at(s, place, among.next());
+        if place < next { next } else { end }
+    }
+}
+
+// The parent of the set that a row stands in.
 fn parent_of(s: &[u32], row: u32) -> u32
     ensures { result ≡ get_or s.now row 0 }
 {
@@ -66,200 +122,202 @@ fn parent_of(s: &[u32], row: u32) -> u32
 fn has_object_parent(image: &[u32], s: &[u32], row: u32) -> bool
     ensures { result ≡ has_object_parent image.now s.now row }
 {
-    type_kind(image, parent_of(s, row)) == OBJECT
+    is_object(image, parent_of(s, row))
 }
 
-// A word of a place's links.
-fn link_at(s: &[u32], arena: Arena, place: u32, column: u32) -> u32
-    ensures { result ≡ link_at s.now arena place column }
-{
-    get(s, in_links(arena, place, column))
-}
-
-// Which of the four leads to the next of a segment.
-fn column_of(kind: u32) -> u32
-    ensures { result ≡ column_of kind }
-{
-    if kind == EVERY_PARENT {
-        NEXT_OF_NAME
-    } else {
-        NEXT_OF_PARENT
+impl<'i, 'w> Listed<'i, 'w> {
+    // Whether the field at a place has an object for its parent.
+    fn has_object_parent(self, place: u32) -> bool
+        ensures { result ≡ has_object_parent self.entry.image.now self.entry.words.now (row_in self.entry.words.now self.entry.arena.store place) }
+    {
+        has_object_parent(self.image, self.words, self.arena.row_at(self.words, place))
     }
-}
 
-// The next place of a segment, from one of its places; the end where there is none.
-pub fn follow(s: &[u32], arena: Arena, kind: u32, place: u32, end: u32) -> u32
-    ensures { result ≡ followed s.now arena kind place end }
-{
-    let next = link_at(s, arena, place, column_of(kind));
-    if place < next { next } else { end }
-}
+    // The next place of the same name.
+    fn next_of_name(self, place: u32) -> u32
+        ensures { result ≡ followed self.entry.words.now self.entry.arena Among.Every place self.entry.list.end }
+    {
+        self.arena
+            .follow(self.words, Among::Every, place, self.list.end)
+    }
 
-// The place of the first group from a place on.
-pub fn find_group(s: &[u32], arena: Arena, list: Span, from: u32) -> u32
-    ensures { result ≡ group_found s.now arena from list.end }
-{
-    let end = list.end;
-    let mut place = from;
-    while place < end {
-        if link_at(s, arena, place, FIRST_OF_NAME) == place {
-            return place;
+    // The place of the first group from a place on.
+    fn find_group(self, from: u32) -> u32
+        ensures { result ≡ group_found self.entry.words.now self.entry.arena from self.entry.list.end }
+    {
+        for place in from..self.list.end {
+            if self.arena.link_at(self.words, place, Link::FirstOfName) == place {
+                return place;
+            }
         }
-        place += 1;
+        from.max(self.list.end)
     }
-    place
-}
 
-// Whether a field has an object for its parent, and is the first of its name and parent.
-fn opens_subgroup(image: &[u32], s: &[u32], arena: Arena, place: u32) -> bool
-    ensures { result ≡ opens_at image.now s.now arena place }
-{
-    if has_object_parent(image, s, row_at(s, arena, place)) {
-        return link_at(s, arena, place, FIRST_OF_PARENT) == place;
+    // Whether a field has an object for its parent, and is the first of its name and parent.
+    fn opens_subgroup(self, place: u32) -> bool
+        ensures { result ≡ opens_at self.entry.image.now self.entry.words.now self.entry.arena place }
+    {
+        self.has_object_parent(place)
+            && self.arena.link_at(self.words, place, Link::FirstOfParent) == place
     }
-    false
-}
 
-// The place of the first subgroup of an object parent in a group, from a place of the group on.
-fn find_subgroup(image: &[u32], s: &[u32], arena: Arena, list: Span, from: u32) -> u32
-    ensures { FindsSubgroup image.now s.now arena list from result }
-{
-    let end = list.end;
-    let mut place = from;
-    while place < end {
-        if opens_subgroup(image, s, arena, place) {
-            return place;
+    // The place of the first subgroup of an object parent in a group, from a place of the group on; the list's end, where links lead
+    // to that. The loop follows links, and counts nothing.
+    fn find_subgroup(self, from: u32) -> u32
+        ensures { FindsSubgroup self.entry.image.now self.entry.words.now self.entry.arena self.entry.list from result }
+    {
+        let mut place = from;
+        while place < self.list.end {
+            if self.opens_subgroup(place) {
+                return place;
+            }
+            place = self.next_of_name(place);
         }
-        place = follow(s, arena, EVERY_PARENT, place, end);
+        place
     }
-    place
-}
 
-// The place of the first field of a group whose parent is no object.
-fn find_others(image: &[u32], s: &[u32], arena: Arena, list: Span, group: u32) -> u32
-    ensures { FindsOthers image.now s.now arena list group result }
-{
-    let end = list.end;
-    let mut place = group;
-    while place < end {
-        if has_object_parent(image, s, row_at(s, arena, place)) {
-            place = follow(s, arena, EVERY_PARENT, place, end);
+    // The place of the first field of a group whose parent is no object; the list's end, where links lead to that. The loop follows
+    // links, and counts nothing.
+    fn find_others(self, group: u32) -> u32
+        ensures { FindsOthers self.entry.image.now self.entry.words.now self.entry.arena self.entry.list group result }
+    {
+        let mut place = group;
+        while place < self.list.end {
+            if !self.has_object_parent(place) {
+                return place;
+            }
+            place = self.next_of_name(place);
+        }
+        place
+    }
+
+    // A group's first subgroup: that of its first object parent, or all of it where there is none.
+    fn first_subgroup(self, group: u32) -> Cursor
+        ensures { FirstSubgroup self.entry.image.now self.entry.words.now self.entry.arena self.entry.list group result }
+    {
+        let others = self.find_others(group);
+        let first = self.find_subgroup(group);
+        Cursor {
+            group,
+            first: if first < self.list.end { first } else { group },
+            others,
+        }
+    }
+
+    // The place of the next subgroup of the same group; the list's end where there is none.
+    fn later_subgroup(self, cursor: Cursor) -> u32
+        ensures { LaterSubgroup self.entry.image.now self.entry.words.now self.entry.arena self.entry.list cursor result }
+    {
+        if self.has_object_parent(cursor.first) {
+            self.find_subgroup(self.next_of_name(cursor.first))
         } else {
-            return place;
+            self.list.end
         }
     }
-    place
-}
 
-// A group's first subgroup: that of its first object parent, or all of it where there is none.
-pub fn first_subgroup(image: &[u32], s: &[u32], arena: Arena, list: Span, group: u32) -> Cursor
-    ensures { FirstSubgroup image.now s.now arena list group result }
-{
-    let others = find_others(image, s, arena, list, group);
-    let first = find_subgroup(image, s, arena, list, group);
-    if first < list.end {
-        return Cursor {
-            group,
-            first,
-            others,
-        };
+    // The next subgroup of the group, if there is one, or the first of the next group.
+    fn next_subgroup(self, cursor: Cursor) -> Cursor
+        requires { cursor.group < self.list.end }
+        ensures { NextSubgroup self.entry.image.now self.entry.words.now self.entry.arena self.entry.list cursor result }
+    {
+        let first = self.later_subgroup(cursor);
+        if first < self.list.end {
+            Cursor { first, ..cursor }
+        } else {
+            self.first_subgroup(self.find_group(cursor.group + 1))
+        }
     }
-    Cursor {
-        group,
-        first: group,
-        others,
-    }
-}
 
-// The place of the next subgroup of the same group; the list's end where there is none.
-fn later_subgroup(image: &[u32], s: &[u32], arena: Arena, list: Span, cursor: Cursor) -> u32
-    ensures { LaterSubgroup image.now s.now arena list cursor result }
-{
-    if has_object_parent(image, s, row_at(s, arena, cursor.first)) {
-        let next = follow(s, arena, EVERY_PARENT, cursor.first, list.end);
-        return find_subgroup(image, s, arena, list, next);
-    }
-    list.end
-}
-
-// The next subgroup of the group, if there is one, or the first of the next group.
-pub(crate) fn next_subgroup(
-    image: &[u32],
-    s: &[u32],
-    arena: Arena,
-    list: Span,
-    cursor: Cursor,
-) -> Cursor
-    requires { cursor.group < list.end }
-    ensures { NextSubgroup image.now s.now arena list cursor result }
-{
-    let group = cursor.group;
-    let others = cursor.others;
-    let first = later_subgroup(image, s, arena, list, cursor);
-    if first < list.end {
-        return Cursor {
-            group,
-            first,
-            others,
-        };
-    }
-    first_subgroup(image, s, arena, list, find_group(s, arena, list, group + 1))
-}
-
-// A name group as a part: all fields of its name, from the first one on.
-pub fn group_part(image: &[u32], s: &[u32], arena: Arena, list: Span, group: u32) -> Part
-    ensures { result ≡ group_part image.now s.now arena.store list group }
-{
-    let name = response_name(image, row_at(s, arena, group));
-    let front = Segment {
-        name,
-        kind: EVERY_PARENT,
-        parent: 0,
-    };
-    let next = list.end;
-    Part {
-        list,
-        first: group,
-        front,
-        next,
-        back: front,
-    }
-}
-
-// A subgroup as a part: the fields of its object parent, then those of interfaces and unions; or these alone.
-pub fn subgroup_part(image: &[u32], s: &[u32], arena: Arena, list: Span, cursor: Cursor) -> Part
-    ensures { result ≡ subgroup_part image.now s.now arena.store list cursor }
-{
-    let name = response_name(image, row_at(s, arena, cursor.group));
-    let row = row_at(s, arena, cursor.first);
-    let first = cursor.first;
-    let back = Segment {
-        name,
-        kind: ABSTRACT_PARENT,
-        parent: 0,
-    };
-    if has_object_parent(image, s, row) {
-        let parent = parent_of(s, row);
+    // A name group as a part: all fields of its name, from the first one on.
+    fn group_part(self, group: u32) -> Part
+        ensures { result ≡ group_part self.entry.image.now self.entry.words.now self.entry.arena.store self.entry.list group }
+    {
+        let name = response_name(self.image, self.arena.row_at(self.words, group));
         let front = Segment {
             name,
-            kind: ONE_PARENT,
-            parent,
+            among: Among::Every,
         };
-        let next = cursor.others;
-        return Part {
-            list,
-            first,
+        Part {
+            list: self.list,
+            first: group,
             front,
-            next,
-            back,
-        };
+            next: self.list.end,
+            back: front,
+        }
     }
-    let next = list.end;
-    Part {
-        list,
-        first,
-        front: back,
-        next,
-        back,
+
+    // A subgroup as a part: the fields of its object parent, then those of interfaces and unions; or these alone.
+    fn subgroup_part(self, cursor: Cursor) -> Part
+        ensures { result ≡ subgroup_part self.entry.image.now self.entry.words.now self.entry.arena.store self.entry.list cursor }
+    {
+        let name = response_name(self.image, self.arena.row_at(self.words, cursor.group));
+        let row = self.arena.row_at(self.words, cursor.first);
+        let back = Segment {
+            name,
+            among: Among::Abstract,
+        };
+        if has_object_parent(self.image, self.words, row) {
+            let parent = parent_of(self.words, row);
+            let among = Among::One(parent);
+            let next = cursor.others;
+            Part {
+                list: self.list,
+                first: cursor.first,
+                front: Segment { name, among },
+                next,
+                back,
+            }
+        } else {
+            Part {
+                list: self.list,
+                first: cursor.first,
+                front: back,
+                next: self.list.end,
+                back,
+            }
+        }
+    }
+
+    // A group as the pass goes over it: the shape pass takes it whole, the parent pass begins with its first subgroup.
+    fn enter_group(self, pass: Pass, group: u32) -> Cursor
+        ensures { Enters self.entry.image.now self.entry.words.now self.entry.arena (is_shape pass) self.entry.list group result }
+    {
+        match pass {
+            Pass::Shape => Cursor {
+                group,
+                first: group,
+                others: self.list.end,
+            },
+            Pass::Parents => self.first_subgroup(group),
+        }
+    }
+
+    // The first part of the list.
+    pub fn first_part(self, pass: Pass) -> Cursor
+        ensures { FirstPart self.entry.image.now self.entry.words.now self.entry.arena (is_shape pass) self.entry.list result }
+    {
+        self.enter_group(pass, self.find_group(self.list.start))
+    }
+
+    // The part behind another one. Its group is the list's end where there is none, as the links have it: a loop over parts ends by
+    // the test that this function requires.
+    pub fn next_part(self, pass: Pass, cursor: Cursor) -> Cursor
+        requires { cursor.group < self.list.end }
+        ensures { NextPart self.entry.image.now self.entry.words.now self.entry.arena (is_shape pass) self.entry.list cursor result }
+    {
+        match pass {
+            Pass::Shape => self.enter_group(pass, self.find_group(cursor.group + 1)),
+            Pass::Parents => self.next_subgroup(cursor),
+        }
+    }
+
+    // The part at a cursor.
+    pub fn part_at(self, pass: Pass, cursor: Cursor) -> Part
+        ensures { result ≡ part_in self.entry.image.now self.entry.words.now self.entry.arena.store self.entry.list (is_shape pass) cursor }
+    {
+        match pass {
+            Pass::Shape => self.group_part(cursor.group),
+            Pass::Parents => self.subgroup_part(cursor),
+        }
     }
 }

@@ -15,70 +15,64 @@ pub struct Chain {
     pub store: u32,
 }
 
-// The class of the row that stands at a place.
-pub fn class_at(s: &[u32], chain: Chain, place: u32) -> u32
-    ensures { result ≡ class_at s.now chain place }
-{
-    get(
-        s,
-        in_region(chain.classes, get(s, in_region(chain.store, place))),
-    )
-}
-
-// Where the links of a place stand.
-pub fn links_at(chain: Chain, place: u32) -> usize
-    ensures { result ≡ chain.links + 4 * place }
-{
-    (chain.links as usize) + 4 * (place as usize)
-}
-
-// Whether `before` is a place of the list, before another one, and has that class.
-fn is_earlier(s: &[u32], chain: Chain, list: Span, before: u32, place: u32, class: u32) -> bool
-    ensures { result ≡ is_earlier s.now chain list before place class }
-{
-    if before < list.start {
-        return false;
+impl Chain {
+    // The class of the row that stands at a place.
+    pub fn class_at(self, s: &[u32], place: u32) -> u32
+        ensures { result ≡ class_at s.now self place }
+    {
+        get(
+            s,
+            in_region(self.classes, get(s, in_region(self.store, place))),
+        )
     }
-    if place <= before {
-        return false;
+
+    // Where the links of a place stand.
+    pub fn links_at(self, place: u32) -> usize
+        ensures { result ≡ self.links + 4 * place }
+    {
+        (self.links as usize) + 4 * (place as usize)
     }
-    class_at(s, chain, before) == class
-}
 
-// A place is the last of its class so far: it leads to the list's end.
-fn end_links(s: &mut [u32], chain: Chain, list: Span, place: u32, class: u32, first: u32)
-    ensures { s.new ≡ end_words s.old chain list place class first }
-{
-    let at = links_at(chain, place);
-    put(s, in_region(chain.lasts, class), place);
-    put(s, at, list.end);
-    put(s, at + 1, first);
-}
-
-// A place is linked to the last one of its class, where there is one.
-fn link_place(s: &mut [u32], chain: Chain, list: Span, place: u32)
-    ensures { s.new ≡ link_words s.old chain list place }
-{
-    let class = class_at(&s[..], chain, place);
-    let before = get(&s[..], in_region(chain.lasts, class));
-    if is_earlier(&s[..], chain, list, before, place, class) {
-        let at = links_at(chain, before);
-        let first = get(&s[..], at + 1);
-        put(s, at, place);
-        end_links(s, chain, list, place, class, first);
-    } else {
-        end_links(s, chain, list, place, class, place);
+    // Whether `before` is a place of the list, before another one, and has that class.
+    fn is_earlier(self, s: &[u32], list: Span, before: u32, place: u32, class: u32) -> bool
+        ensures { result ≡ is_earlier s.now self list before place class }
+    {
+        let inside = list.start <= before && before < place;
+        inside && self.class_at(s, before) == class
     }
-}
 
-// The places of a list are linked, in one pass.
-pub fn link(s: &mut [u32], chain: Chain, list: Span)
-    ensures { Links s.old s.new chain list }
-{
-    let end = list.end;
-    let mut place = list.start;
-    while place < end {
-        link_place(s, chain, list, place);
-        place += 1;
+    // A place is the last of its class so far: it leads to the list's end.
+    fn end_links(self, s: &mut [u32], list: Span, place: u32, class: u32, first: u32)
+        ensures { s.new ≡ end_words s.old self list place class first }
+    {
+        let at = self.links_at(place);
+        put(s, in_region(self.lasts, class), place);
+        put(s, at, list.end);
+        put(s, at + 1, first);
+    }
+
+    // A place is linked to the last one of its class, where there is one.
+    fn link_place(self, s: &mut [u32], list: Span, place: u32)
+        ensures { s.new ≡ link_words s.old self list place }
+    {
+        let class = self.class_at(&s[..], place);
+        let before = get(&s[..], in_region(self.lasts, class));
+        if self.is_earlier(&s[..], list, before, place, class) {
+            let at = self.links_at(before);
+            let first = get(&s[..], at + 1);
+            put(s, at, place);
+            self.end_links(s, list, place, class, first);
+        } else {
+            self.end_links(s, list, place, class, place);
+        }
+    }
+
+    // The places of a list are linked, in one pass.
+    pub fn link(self, s: &mut [u32], list: Span)
+        ensures { Links s.old s.new self list }
+    {
+        for place in list.start..list.end {
+            self.link_place(s, list, place);
+        }
     }
 }

@@ -1,485 +1,437 @@
-// The two passes of the merge walk over one operation, and what they charge. Every function ends and stays inside its words on
+// A pass of the merge walk over one operation, and what it charges. Every function ends and stays inside its words on
 // any image; what it yields is the merge theory's walk where the image is good and the operation's sets are sound.
-ghost use Rattle.std.specs.Prelude.{◌≡◌, true, false, ◌+◌, ◌<◌};
-ghost use Rattle.selection.specs.Refining.{charged, MeetsList, Ample, Begun, MeetsSets, MeetsPart, WalksList, pass_of};
-ghost use Rattle.selection.specs.Validating.{MeetsOperation, Runs, Validates};
-ghost use Rattle.selection.specs.Comparing.{kind_of_clash, conflicted, ComparesSegment, ComparesPart, Bare, field_next, field_words, QueuesSegment, QueuesPart};
+ghost use Rattle.std.specs.Prelude.{◌≡◌, true, false, ◌+◌, ◌<◌, ◌≤◌};
+ghost use Rattle.selection.specs.Passes.{is_shape};
+ghost use Rattle.selection.specs.Grouping.{part_in};
+ghost use Rattle.selection.specs.Following.{FirstPart, NextPart};
+ghost use Rattle.merge_theory.specs.Document.{number_of};
+ghost use Rattle.selection.specs.Refining.{charged, MeetsList, Ample, Begun, MeetsSets, MeetsPart, WalksList, pass_of, ended, ended_here, met_from, Stops, Ends, EndsMet};
+ghost use Rattle.selection.specs.Validating.{at_start, MeetsOperation, Runs, Validates};
+ghost use Rattle.selection.specs.Comparing.{cause_of, clash_shows, conflicted, ComparesSegment, ComparesPart, Bare, filled_set, field_next, field_words, QueuesSegment, QueuesPart};
 
-use crate::arena::{Arena, MOST_WORK, Reply, Walk, area_of, arena_of, registry_of};
-use crate::groups::{
-    Part, Segment, find_group, first_subgroup, follow, group_part, next_subgroup, row_at,
-    subgroup_part,
-};
-use crate::standing::link_list;
-use expand::{Expansion, expand_selections, queue_set};
-use known::{forget, is_known, keep, slot_of};
-use lists::{Span, clear, least, span_length};
-use tables::columns::{field_arguments, field_name, field_type, is_empty_set, selection_target};
-use tables::{FRAGMENTS, NONE, count};
+use crate::arena::{Arena, MOST_WORK, Reply, Walk};
+use crate::groups::{Cursor, Listed, Part, Segment};
+use crate::pass::Pass;
+use expand::Expansion;
+use lists::{Span, clear};
+use tables::columns::{field_arguments, field_name, field_type, is_empty_set, own_set};
+use tables::{FRAGMENTS, count};
 use values::same_arguments;
 use values::shape::same_output_type_shape;
 
 // One more than the links of the document: a set lies fewer links below the operation's.
 const LEVELS: u32 = 502;
 
-// What has been met: the list, and whether it is new and paid, so that the walk goes deeper into it.
+// What has been met, and the list that the walk goes into: one that is new and paid.
 #[derive(Clone, Copy)]
 pub struct Met {
     pub walk: Walk,
-    pub list: Span,
-    pub deeper: bool,
+    pub below: Option<Span>,
 }
 
-// One unit and as many as there are rows are charged, or the reply is 17 where that would pass the budget.
-fn charge(walk: Walk, work: u32, rows: u32) -> Walk
-    ensures { result ≡ charged work (1 + rows) walk }
-{
-    let mut next = walk;
-    let used = walk.reply.used;
-    let sum = (used as u64) + (1 + (rows as u64));
-    if sum <= (work as u64) {
-        let more = sum as u32;
-        next.reply.used = more;
-    } else {
-        next.reply.kind = 17;
-    }
-    next
+// One pass over one operation: where its words lie, its budget, and which of the two it is.
+#[derive(Clone, Copy)]
+pub struct Run {
+    pub arena: Arena,
+    pub work: u32,
+    pub pass: Pass,
 }
 
-// The list at hand is met: charged, and kept where it is new and paid.
-fn meet_list(s: &mut [u32], arena: Arena, work: u32, walk: Walk, list: Span) -> Met
-    ensures { MeetsList s.old s.new arena work walk list result }
-{
-    let registry = registry_of(arena);
-    let slot = slot_of(&s[..], registry, list);
-    if is_known(&s[..], registry, slot, list) {
-        let paid = charge(walk, work, 0);
-        return Met {
-            walk: paid,
-            list,
-            deeper: false,
-        };
+// What two fields of one part conflict in.
+#[derive(Clone, Copy)]
+pub enum Clash {
+    Shape,
+    Name,
+    Arguments,
+}
+
+impl Clash {
+    fn kind(self) -> u32
+        ensures { result ≡ number_of (cause_of self) }
+    {
+        match self {
+            Clash::Shape => 14,
+            Clash::Name => 15,
+            Clash::Arguments => 16,
+        }
     }
-    let mut paid = charge(walk, work, span_length(list));
-    let kind = paid.reply.kind;
-    if kind != 0 {
-        return Met {
-            walk: paid,
-            list,
-            deeper: false,
-        };
+}
+
+impl Walk {
+    // Before an operation's passes.
+    fn at_start(operation: u32, used: u32) -> Walk
+        ensures { result ≡ at_start operation used }
+    {
+        Walk {
+            reply: Reply {
+                kind: 0,
+                operation,
+                a: 0,
+                b: 0,
+                used,
+            },
+            known: 0,
+            expansions: 0,
+        }
     }
-    let known = keep(s, registry, slot, walk.known, list);
-    paid.known = known;
-    Met {
-        walk: paid,
-        list,
-        deeper: true,
+
+    // One unit and as many as there are rows are charged, or the reply is 17 where that would pass the budget.
+    fn charge(self, work: u32, rows: u32) -> Result<Walk, Reply>
+        ensures charges { ended self result ≡ charged work (1 + rows) self }
+        ensures ends { self.reply.kind ≡ 0 → Ends result }
+    {
+        let used = self.reply.used;
+        let sum = (used as u64) + (1 + (rows as u64));
+        if sum <= (work as u64) {
+            Ok(Walk {
+                reply: Reply {
+                    used: sum as u32,
+                    ..self.reply
+                },
+                ..self
+            })
+        } else {
+            Err(Reply {
+                kind: 17,
+                ..self.reply
+            })
+        }
+    }
+
+    fn conflict(self, clash: Clash, a: u32, b: u32) -> Reply
+        ensures { result ≡ (conflicted (number_of (cause_of clash)) a b self).reply }
+    {
+        Reply {
+            kind: clash.kind(),
+            a,
+            b,
+            ..self.reply
+        }
     }
 }
 
 // An expansion whose queue is empty yet.
-fn begin_expansion(work: u32, walk: Walk) -> Expansion
-    requires { Ample work 0 walk }
+fn begin_expansion(walk: Walk) -> Expansion
+    requires { (walk.known ≤ 1000000) × (walk.expansions ≤ 1000000) }
     ensures { Begun walk result × (result.queued ≡ 0) }
 {
-    let listed = walk.known + 1;
-    let number = walk.expansions + 1;
     Expansion {
         queued: 0,
-        listed,
-        number,
+        listed: walk.known + 1,
+        number: walk.expansions + 1,
     }
 }
 
-// The queued sets are expanded, and their list is met; one that is new and paid is linked.
-fn meet_sets(
-    image: &[u32],
-    s: &mut [u32],
-    arena: Arena,
-    work: u32,
-    walk: Walk,
-    x: Expansion,
-    shape: bool,
-) -> Met
-    requires { Ample work 0 walk × Begun walk x }
-    ensures { MeetsSets image.now arena work s.old s.new walk x shape result }
-{
-    let start = x.listed;
-    let end = expand_selections(image, s, area_of(arena), x);
-    let list = Span { start, end };
-    let mut next = walk;
-    let number = x.number;
-    next.expansions = number;
-    let met = meet_list(s, arena, work, next, list);
-    if met.deeper {
-        link_list(s, arena, met.list, shape);
-    }
-    met
-}
-
-// 14 where two fields differ in shape, else 0.
-fn shape_clash(image: &[u32], a: u32, b: u32) -> u32
-    ensures { result ≡ kind_of_clash ((pass_of image.now true).clash a b) }
+// Whether two fields differ in shape.
+fn shape_clash(image: &[u32], a: u32, b: u32) -> Option<Clash>
+    ensures { clash_shows result ≡ (pass_of image.now true).clash a b }
 {
     if same_output_type_shape(image, field_type(image, a), field_type(image, b)) {
-        0
+        None
     } else {
-        14
+        Some(Clash::Shape)
     }
 }
 
-// 15 or 16 where two fields differ in name or arguments, else 0.
-fn same_name_and_arguments(image: &[u32], a: u32, b: u32) -> u32
-    ensures { result ≡ kind_of_clash ((pass_of image.now false).clash a b) }
+// Whether two fields differ in name or arguments.
+fn same_name_and_arguments(image: &[u32], a: u32, b: u32) -> Option<Clash>
+    ensures { clash_shows result ≡ (pass_of image.now false).clash a b }
 {
     if field_name(image, a) != field_name(image, b) {
-        return 15;
+        return Some(Clash::Name);
     }
     if same_arguments(image, field_arguments(image, a), field_arguments(image, b)) {
-        0
+        None
     } else {
-        16
+        Some(Clash::Arguments)
     }
 }
 
 // What two fields of one part conflict in, in the shape pass or in the parent pass.
-fn clash(image: &[u32], shape: bool, a: u32, b: u32) -> u32
-    ensures { result ≡ kind_of_clash ((pass_of image.now shape).clash a b) }
+fn clash_of(image: &[u32], pass: Pass, a: u32, b: u32) -> Option<Clash>
+    ensures { clash_shows result ≡ (pass_of image.now (is_shape pass)).clash a b }
 {
-    if shape {
-        return shape_clash(image, a, b);
+    match pass {
+        Pass::Shape => shape_clash(image, a, b),
+        Pass::Parents => same_name_and_arguments(image, a, b),
     }
-    same_name_and_arguments(image, a, b)
 }
 
-fn conflict(walk: Walk, kind: u32, a: u32, b: u32) -> Walk
-    ensures { result ≡ conflicted kind a b walk }
+// The set of a field, if it has one that is not empty.
+fn filled_set(image: &[u32], row: u32) -> Option<u32>
+    ensures { result ≡ filled_set image.now row }
 {
-    let mut next = walk;
-    next.reply.kind = kind;
-    next.reply.a = a;
-    next.reply.b = b;
-    next
-}
-
-// A field against those of a segment, in order, from one of its places on.
-fn compare_segment(
-    image: &[u32],
-    s: &[u32],
-    arena: Arena,
-    walk: Walk,
-    list: Span,
-    segment: Segment,
-    shape: bool,
-    a: u32,
-    from: u32,
-) -> Walk
-    ensures { ComparesSegment image.now s.now arena walk list segment shape a from result }
-{
-    let end = list.end;
-    let mut place = from;
-    while place < end {
-        let b = row_at(s, arena, place);
-        let kind = clash(image, shape, a, b);
-        if kind != 0 {
-            return conflict(walk, kind, a, b);
-        }
-        place = follow(s, arena, segment.kind, place, end);
-    }
-    walk
-}
-
-// The first field of a part against each other, in order.
-fn compare_part(image: &[u32], s: &[u32], arena: Arena, walk: Walk, part: Part, shape: bool) -> Walk
-    ensures { ComparesPart image.now s.now arena walk part shape result }
-{
-    let a = row_at(s, arena, part.first);
-    let kind = part.front.kind;
-    let second = follow(s, arena, kind, part.first, part.list.end);
-    let front = compare_segment(
-        image, s, arena, walk, part.list, part.front, shape, a, second,
-    );
-    if front.reply.kind != 0 {
-        return front;
-    }
-    compare_segment(
-        image, s, arena, front, part.list, part.back, shape, a, part.next,
-    )
-}
-
-// The set of a field is queued, if it has one that is not empty.
-fn queue_field(image: &[u32], s: &mut [u32], arena: Arena, x: Expansion, row: u32) -> Expansion
-    ensures { (result ≡ field_next image.now arena x row) × (s.new ≡ field_words image.now arena x s.old row) }
-{
-    let set = selection_target(image, row);
-    if set == NONE {
-        return x;
-    }
+    let set = own_set(image, row)?;
     if is_empty_set(image, set) {
-        return x;
+        None
+    } else {
+        Some(set)
     }
-    queue_set(s, area_of(arena), x, set)
 }
 
-// The sets of a segment's fields are queued, from one of its places on.
-fn queue_segment(
-    image: &[u32],
-    s: &mut [u32],
-    arena: Arena,
-    x: Expansion,
-    list: Span,
-    segment: Segment,
-    from: u32,
-) -> Expansion
-    ensures { QueuesSegment image.now arena s.old s.new x result list segment from }
-{
-    let end = list.end;
-    let mut next = x;
-    let mut place = from;
-    while place < end {
-        let row = row_at(&s[..], arena, place);
-        next = queue_field(image, s, arena, next, row);
-        place = follow(&s[..], arena, segment.kind, place, end);
-    }
-    next
-}
-
-// The sets of a part's fields are queued.
-fn queue_part(image: &[u32], s: &mut [u32], arena: Arena, x: Expansion, part: Part) -> Expansion
-    ensures { QueuesPart image.now arena s.old s.new x result part }
-{
-    let front = queue_segment(image, s, arena, x, part.list, part.front, part.first);
-    queue_segment(image, s, arena, front, part.list, part.back, part.next)
-}
-
-// Whether a part is one field without a set, so that there is nothing to compare or to meet.
-fn is_bare(image: &[u32], s: &[u32], arena: Arena, part: Part) -> bool
-    ensures { Bare image.now s.now arena part result }
-{
-    let end = part.list.end;
-    if part.next < end {
-        return false;
-    }
-    let kind = part.front.kind;
-    if follow(s, arena, kind, part.first, end) < end {
-        return false;
-    }
-    let set = selection_target(image, row_at(s, arena, part.first));
-    if set == NONE {
-        return true;
-    }
-    is_empty_set(image, set)
-}
-
-// One part: compared, and its sets met.
-fn meet_part(
-    image: &[u32],
-    s: &mut [u32],
-    arena: Arena,
-    work: u32,
-    walk: Walk,
-    part: Part,
-    shape: bool,
-) -> Met
-    requires { Ample work 0 walk }
-    ensures { MeetsPart image.now arena work s.old s.new walk part shape result }
-{
-    let list = part.list;
-    let compared = compare_part(image, &s[..], arena, walk, part, shape);
-    let kind = compared.reply.kind;
-    if kind != 0 {
-        return Met {
-            walk: compared,
-            list,
-            deeper: false,
-        };
-    }
-    let queued = queue_part(image, s, arena, begin_expansion(work, compared), part);
-    let sets = queued.queued;
-    if sets == 0 {
-        return Met {
-            walk: compared,
-            list,
-            deeper: false,
-        };
-    }
-    meet_sets(image, s, arena, work, compared, queued, shape)
-}
-
-// A group, in the shape pass; one field without a set is passed over.
-fn meet_group(image: &[u32], s: &mut [u32], arena: Arena, work: u32, walk: Walk, part: Part) -> Met
-    requires { Ample work 0 walk }
-    ensures { MeetsPart image.now arena work s.old s.new walk part true result }
-{
-    let list = part.list;
-    if is_bare(image, &s[..], arena, part) {
-        return Met {
-            walk,
-            list,
-            deeper: false,
-        };
-    }
-    meet_part(image, s, arena, work, walk, part, true)
-}
-
-// A subgroup, in the parent pass; one field without a set is passed over.
-fn meet_subgroup(
-    image: &[u32],
-    s: &mut [u32],
-    arena: Arena,
-    work: u32,
-    walk: Walk,
-    part: Part,
-) -> Met
-    requires { Ample work 0 walk }
-    ensures { MeetsPart image.now arena work s.old s.new walk part false result }
-{
-    let list = part.list;
-    if is_bare(image, &s[..], arena, part) {
-        return Met {
-            walk,
-            list,
-            deeper: false,
-        };
-    }
-    meet_part(image, s, arena, work, walk, part, false)
-}
-
-// The shape pass over a list, group by group, each with all that is below it. `level` falls.
-fn same_response_shape_by_name(
-    image: &[u32],
-    s: &mut [u32],
-    arena: Arena,
-    work: u32,
-    walk: Walk,
-    list: Span,
-    level: u32,
-) -> Walk
-    requires { Ample work 0 walk }
-    ensures { WalksList image.now arena work s.old s.new walk list true level result }
-{
-    if level == 0 {
-        return walk;
-    }
-    let end = list.end;
-    let mut next = walk;
-    let mut place = find_group(&s[..], arena, list, list.start);
-    while place < end {
-        let part = group_part(image, &s[..], arena, list, place);
-        let met = meet_group(image, s, arena, work, next, part);
-        next = met.walk;
-        if met.deeper {
-            next = same_response_shape_by_name(image, s, arena, work, next, met.list, level - 1);
+impl Run {
+    // The list at hand is met: charged, and kept where it is new and paid.
+    fn meet_list(self, s: &mut [u32], walk: Walk, list: Span) -> Result<Met, Reply>
+        requires { walk.reply.kind ≡ 0 }
+        ensures meets { MeetsList s.old s.new self.arena self.work walk list (met_from walk result) }
+        ensures ends { EndsMet result }
+    {
+        let registry = self.arena.registry();
+        let slot = registry.slot_of(&s[..], list);
+        if registry.is_known(&s[..], slot, list) {
+            let paid = walk.charge(self.work, 0)?;
+            return Ok(Met {
+                walk: paid,
+                below: None,
+            });
         }
-        if next.reply.kind != 0 {
-            return next;
+        let paid = walk.charge(self.work, list.len())?;
+        let known = registry.keep(s, slot, walk.known, list);
+        Ok(Met {
+            walk: Walk { known, ..paid },
+            below: Some(list),
+        })
+    }
+
+    // The queued sets are expanded, and their list is met; one that is new and paid is linked.
+    fn meet_sets(self, image: &[u32], s: &mut [u32], walk: Walk, x: Expansion) -> Result<Met, Reply>
+        requires { Ample self.work 0 walk × Begun walk x }
+        ensures meets { MeetsSets image.now self.arena self.work s.old s.new walk x (is_shape self.pass) (met_from walk result) }
+        ensures ends { EndsMet result }
+    {
+        let start = x.listed;
+        let end = self.arena.area().expand_selections(image, s, x);
+        let next = Walk {
+            expansions: x.number,
+            ..walk
+        };
+        let met = self.meet_list(s, next, Span { start, end })?;
+        if let Some(list) = met.below {
+            self.arena.link_list(s, list, self.pass);
         }
-        place = find_group(&s[..], arena, list, place + 1);
+        Ok(met)
     }
-    next
-}
 
-// The parent pass over a list, subgroup by subgroup, each with all that is below it. `level` falls.
-fn same_for_common_parents_by_name(
-    image: &[u32],
-    s: &mut [u32],
-    arena: Arena,
-    work: u32,
-    walk: Walk,
-    list: Span,
-    level: u32,
-) -> Walk
-    requires { Ample work 0 walk }
-    ensures { WalksList image.now arena work s.old s.new walk list false level result }
-{
-    if level == 0 {
-        return walk;
-    }
-    let end = list.end;
-    let mut next = walk;
-    let group = find_group(&s[..], arena, list, list.start);
-    let mut at = first_subgroup(image, &s[..], arena, list, group);
-    while at.group < end {
-        let part = subgroup_part(image, &s[..], arena, list, at);
-        let met = meet_subgroup(image, s, arena, work, next, part);
-        next = met.walk;
-        if met.deeper {
-            next = same_for_common_parents_by_name(
-                image,
-                s,
-                arena,
-                work,
-                next,
-                met.list,
-                level - 1,
-            );
+    // A field against those of a segment, in order, from one of its places on. The loop follows links, and counts nothing.
+    fn compare_segment(
+        self,
+        image: &[u32],
+        s: &[u32],
+        walk: Walk,
+        list: Span,
+        segment: Segment,
+        a: u32,
+        from: u32,
+    ) -> Result<(), Reply>
+        ensures compares { ComparesSegment image.now s.now self.arena walk list segment (is_shape self.pass) a from (ended_here walk result) }
+        ensures stops { Stops result }
+    {
+        let mut place = from;
+        while place < list.end {
+            let b = self.arena.row_at(s, place);
+            if let Some(clash) = clash_of(image, self.pass, a, b) {
+                return Err(walk.conflict(clash, a, b));
+            }
+            place = self.arena.follow(s, segment.among, place, list.end);
         }
-        if next.reply.kind != 0 {
-            return next;
+        Ok(())
+    }
+
+    // The first field of a part against each other, in order.
+    fn compare_part(self, image: &[u32], s: &[u32], walk: Walk, part: Part) -> Result<(), Reply>
+        ensures compares { ComparesPart image.now s.now self.arena walk part (is_shape self.pass) (ended_here walk result) }
+        ensures stops { Stops result }
+    {
+        let a = self.arena.row_at(s, part.first);
+        let among = part.front.among;
+        let second = self.arena.follow(s, among, part.first, part.list.end);
+        self.compare_segment(image, s, walk, part.list, part.front, a, second)?;
+        self.compare_segment(image, s, walk, part.list, part.back, a, part.next)
+    }
+
+    // The set of a field is queued, if it has one that is not empty.
+    fn queue_field(self, image: &[u32], s: &mut [u32], x: Expansion, row: u32) -> Expansion
+        ensures { (result ≡ field_next image.now self.arena x row) × (s.new ≡ field_words image.now self.arena x s.old row) }
+    {
+        match filled_set(image, row) {
+            Some(set) => self.arena.area().queue_set(s, x, set),
+            None => x,
         }
-        at = next_subgroup(image, &s[..], arena, list, at);
     }
-    next
-}
 
-// The operation's own set is met, with no words of known lists.
-fn meet_operation(
-    image: &[u32],
-    s: &mut [u32],
-    arena: Arena,
-    work: u32,
-    walk: Walk,
-    operation: u32,
-    shape: bool,
-) -> Met
-    requires { Ample work 0 walk }
-    ensures { MeetsOperation image.now arena work operation s.old s.new walk shape result }
-{
-    let mut next = walk;
-    next.known = 0;
-    let queued = queue_set(s, area_of(arena), begin_expansion(work, next), operation);
-    meet_sets(image, s, arena, work, next, queued, shape)
-}
-
-fn shape_pass(
-    image: &[u32],
-    s: &mut [u32],
-    arena: Arena,
-    work: u32,
-    walk: Walk,
-    operation: u32,
-) -> Walk
-    requires { Ample work 0 walk }
-    ensures { Runs image.now arena work operation s.old s.new walk true result }
-{
-    forget(s, registry_of(arena));
-    let met = meet_operation(image, s, arena, work, walk, operation, true);
-    let next = met.walk;
-    if met.deeper {
-        return same_response_shape_by_name(image, s, arena, work, next, met.list, LEVELS);
+    // The sets of a segment's fields are queued, from one of its places on. The loop follows links, and counts nothing.
+    fn queue_segment(
+        self,
+        image: &[u32],
+        s: &mut [u32],
+        x: Expansion,
+        list: Span,
+        segment: Segment,
+        from: u32,
+    ) -> Expansion
+        ensures { QueuesSegment image.now self.arena s.old s.new x result list segment from }
+    {
+        let mut next = x;
+        let mut place = from;
+        while place < list.end {
+            let row = self.arena.row_at(&s[..], place);
+            next = self.queue_field(image, s, next, row);
+            place = self.arena.follow(&s[..], segment.among, place, list.end);
+        }
+        next
     }
-    next
-}
 
-fn parent_pass(
-    image: &[u32],
-    s: &mut [u32],
-    arena: Arena,
-    work: u32,
-    walk: Walk,
-    operation: u32,
-) -> Walk
-    requires { Ample work 0 walk }
-    ensures { Runs image.now arena work operation s.old s.new walk false result }
-{
-    forget(s, registry_of(arena));
-    let met = meet_operation(image, s, arena, work, walk, operation, false);
-    let next = met.walk;
-    if met.deeper {
-        return same_for_common_parents_by_name(image, s, arena, work, next, met.list, LEVELS);
+    // The sets of a part's fields are queued.
+    fn queue_part(self, image: &[u32], s: &mut [u32], x: Expansion, part: Part) -> Expansion
+        ensures { QueuesPart image.now self.arena s.old s.new x result part }
+    {
+        let front = self.queue_segment(image, s, x, part.list, part.front, part.first);
+        self.queue_segment(image, s, front, part.list, part.back, part.next)
     }
-    next
+
+    // Whether a part is one field without a set, so that there is nothing to compare or to meet.
+    fn is_bare(self, image: &[u32], s: &[u32], part: Part) -> bool
+        ensures { Bare image.now s.now self.arena part result }
+    {
+        let end = part.list.end;
+        let among = part.front.among;
+        let alone = end <= part.next && end <= self.arena.follow(s, among, part.first, end);
+        alone && filled_set(image, self.arena.row_at(s, part.first)).is_none()
+    }
+
+    // A part that is compared, and its sets met.
+    fn meet_fields(self, image: &[u32], s: &mut [u32], walk: Walk, part: Part) -> Result<Met, Reply>
+        requires { Ample self.work 0 walk }
+        ensures meets { MeetsPart image.now self.arena self.work s.old s.new walk part (is_shape self.pass) (met_from walk result) }
+        ensures ends { EndsMet result }
+    {
+        self.compare_part(image, &s[..], walk, part)?;
+        let queued = self.queue_part(image, s, begin_expansion(walk), part);
+        if queued.queued == 0 {
+            return Ok(Met { walk, below: None });
+        }
+        self.meet_sets(image, s, walk, queued)
+    }
+
+    // One part; one field without a set is passed over.
+    fn meet_part(self, image: &[u32], s: &mut [u32], walk: Walk, part: Part) -> Result<Met, Reply>
+        requires { Ample self.work 0 walk }
+        ensures meets { MeetsPart image.now self.arena self.work s.old s.new walk part (is_shape self.pass) (met_from walk result) }
+        ensures ends { EndsMet result }
+    {
+        if self.is_bare(image, &s[..], part) {
+            return Ok(Met { walk, below: None });
+        }
+        self.meet_fields(image, s, walk, part)
+    }
+
+    // Where the pass over a list begins.
+    fn first_part(self, image: &[u32], s: &[u32], list: Span) -> Cursor
+        ensures { FirstPart image.now s.now self.arena (is_shape self.pass) list result }
+    {
+        let listed = Listed {
+            image,
+            words: s,
+            arena: self.arena,
+            list,
+        };
+        listed.first_part(self.pass)
+    }
+
+    fn part_at(self, image: &[u32], s: &[u32], list: Span, cursor: Cursor) -> Part
+        ensures { result ≡ part_in image.now s.now self.arena.store list (is_shape self.pass) cursor }
+    {
+        let listed = Listed {
+            image,
+            words: s,
+            arena: self.arena,
+            list,
+        };
+        listed.part_at(self.pass, cursor)
+    }
+
+    fn next_part(self, image: &[u32], s: &[u32], list: Span, cursor: Cursor) -> Cursor
+        requires { cursor.group < list.end }
+        ensures { NextPart image.now s.now self.arena (is_shape self.pass) list cursor result }
+    {
+        let listed = Listed {
+            image,
+            words: s,
+            arena: self.arena,
+            list,
+        };
+        listed.next_part(self.pass, cursor)
+    }
+
+    // The pass over a list, part by part, each with all that is below it. `level` falls.
+    fn walk_list(
+        self,
+        image: &[u32],
+        s: &mut [u32],
+        walk: Walk,
+        list: Span,
+        level: u32,
+    ) -> Result<Walk, Reply>
+        requires { Ample self.work 0 walk }
+        ensures walks { WalksList image.now self.arena self.work s.old s.new walk list (is_shape self.pass) level (ended walk result) }
+        ensures ends { Ends result }
+    {
+        if level == 0 {
+            return Ok(walk);
+        }
+        let mut next = walk;
+        let mut at = self.first_part(image, &s[..], list);
+        while at.group < list.end {
+            let part = self.part_at(image, &s[..], list, at);
+            let met = self.meet_part(image, s, next, part)?;
+            next = match met.below {
+                Some(below) => self.walk_list(image, s, met.walk, below, level - 1)?,
+                None => met.walk,
+            };
+            at = self.next_part(image, &s[..], list, at);
+        }
+        Ok(next)
+    }
+
+    // The operation's own set is met, with no words of known lists.
+    fn meet_operation(
+        self,
+        image: &[u32],
+        s: &mut [u32],
+        walk: Walk,
+        operation: u32,
+    ) -> Result<Met, Reply>
+        requires { Ample self.work 0 walk }
+        ensures meets { MeetsOperation image.now self.arena self.work operation s.old s.new walk (is_shape self.pass) (met_from walk result) }
+        ensures ends { EndsMet result }
+    {
+        let next = Walk { known: 0, ..walk };
+        let queued = self
+            .arena
+            .area()
+            .queue_set(s, begin_expansion(next), operation);
+        self.meet_sets(image, s, next, queued)
+    }
+
+    // The pass over the operation, with nothing known.
+    fn walk_operation(
+        self,
+        image: &[u32],
+        s: &mut [u32],
+        walk: Walk,
+        operation: u32,
+    ) -> Result<Walk, Reply>
+        requires { Ample self.work 0 walk }
+        ensures runs { Runs image.now self.arena self.work operation s.old s.new walk (is_shape self.pass) (ended walk result) }
+        ensures ends { Ends result }
+    {
+        self.arena.registry().forget(s);
+        let met = self.meet_operation(image, s, walk, operation)?;
+        match met.below {
+            Some(list) => self.walk_list(image, s, met.walk, list, LEVELS),
+            None => Ok(met.walk),
+        }
+    }
 }
 
 // The merge walk of one operation: kind 0, or 14 to 17. `used` goes on from the operations before.
@@ -492,25 +444,25 @@ pub fn validate_operation(
 ) -> Reply
     ensures { Validates image.now work operation used s.old s.new result }
 {
-    let budget = least(work, MOST_WORK);
-    let arena = arena_of(image, budget);
+    let budget = work.min(MOST_WORK);
+    let arena = Arena::of(image, budget);
     clear(s, arena.marks as usize, count(image, FRAGMENTS) as usize);
-    let reply = Reply {
-        kind: 0,
-        operation,
-        a: 0,
-        b: 0,
-        used,
+    let run = Run {
+        arena,
+        work: budget,
+        pass: Pass::Shape,
     };
-    let start = Walk {
-        reply,
-        known: 0,
-        expansions: 0,
+    let start = Walk::at_start(operation, used);
+    let shaped = match run.walk_operation(image, s, start, operation) {
+        Ok(shaped) => shaped,
+        Err(reply) => return reply,
     };
-    let shaped = shape_pass(image, s, arena, budget, start, operation);
-    if shaped.reply.kind != 0 {
-        return shaped.reply;
+    let run = Run {
+        pass: Pass::Parents,
+        ..run
+    };
+    match run.walk_operation(image, s, shaped, operation) {
+        Ok(end) => end.reply,
+        Err(reply) => reply,
     }
-    let end = parent_pass(image, s, arena, budget, shaped, operation);
-    end.reply
 }

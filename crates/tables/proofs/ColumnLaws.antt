@@ -2,22 +2,39 @@
 -- which of them own a set, and what stands in a set.
 -- Assumes nothing.
 use Prim.Native.Nat.{ℕ, zero, suc, ◌+◌, ◌<◌, ◌≤◌}
-use mathlib.Core.Path.{◌≡◌, refl}
+use mathlib.Core.Path.{◌≡◌, refl, sym, ◌∙◌}
 use mathlib.Core.Logic.{◌⊎◌, inl, inr}
 use mathlib.Core.Bool.{Bool, true, false, cond, not, ◌&&◌, ◌||◌, false≢true}
 use mathlib.Core.List.{List}
 use native.Mathlib.Omega.{arith}
 use borrow.Author.Tests.{le-leb, lt-leb, lt-ltb, eq-eqb, ne_eqb, eqb-true, eqb-false}
 use lib.Dec.{eqb, leb}
+use Rattle.std.specs.Prelude.{Some, None}
+use Rattle.std.proofs.lemmas.Option.{none-some, same_Some}
 use Rattle.lists.specs.Every.{total}
 use Rattle.lists.proofs.Tests.{both, second_fails}
 use Rattle.lists.proofs.EveryLaws.{total_more}
 use Rattle.tables.specs.Layout.{NONE, operations, fragments, sets, arguments, values}
 use Rattle.tables.specs.Image.{count_at}
-use Rattle.tables.specs.Columns.{is_composite, argument_name, value_key, field, spread, inline, selection_kind, selection_target, selection_at, set_selections, set_below, fragment_set, is_fragment_set}
+use Rattle.tables.specs.Columns.{is_composite, argument_name, value_key, field, spread, inline, selection_kind, selection_target, selection_at, set_selections, set_below, set_or_none, fragment_set, is_fragment_set}
 use Rattle.tables.specs.Keys.{key_of}
 use Rattle.tables.specs.Numbering.{set_start, set_end, owns_set, owned, next_set}
 use Rattle.tables.specs.Good.{Good, StandsIn}
+
+-- a word names a set where it is not NONE
+pub set_named : {word set : ℕ} → Some set ≡ set_or_none word → (word ≡ set) × (word ≡ NONE → ⊥)
+set_named {word} {set} e = go (eqb word NONE) refl e
+  where
+    go : (b : Bool) → eqb word NONE ≡ b → Some set ≡ cond b None (Some word) → (word ≡ set) × (word ≡ NONE → ⊥)
+    go true t e = absurd (none-some set (sym e))
+    go false t e = (same_Some word set (sym e), λ same. absurd (false≢true (sym t ∙ eq-eqb _ _ same)))
+
+pub none_named : {word : ℕ} → None ≡ set_or_none word → word ≡ NONE
+none_named {word} e = go (eqb word NONE) refl e
+  where
+    go : (b : Bool) → eqb word NONE ≡ b → None ≡ cond b None (Some word) → word ≡ NONE
+    go true t e = eqb-true _ _ t
+    go false t e = absurd (none-some word e)
 
 -- the key of an argument is its name, that of a member its key
 pub argument_key : (image : List ℕ) (r : ℕ) → key_of image arguments r ≡ argument_name image r

@@ -2,19 +2,17 @@
 -- need names a law, and `omega` finds its premises in what the callees ensure and the tests say.
 -- Assumes nothing.
 use Prim.Native.Nat.{ℕ, ◌+◌, ◌*◌, ◌<◌, ◌≤◌}
-use mathlib.Core.Path.{◌≡◌, sym, ◌∙◌}
+use mathlib.Core.Path.{◌≡◌}
 use mathlib.Core.List.{List}
-use mathlib.Core.Option.{Option, none, some}
+use mathlib.Core.Logic.{◌⊎◌, ⊎_elim}
+use mathlib.Core.Option.{none, some}
 use borrow.Author.Tests.{le-leb, lt-leb, eq-eqb, ne_eqb}
 use lib.Dec.{eqb}
 use lib.ListN.{length}
 use Rattle.lists.specs.First.{expect, ◌▷◌, first_fault}
-use Rattle.lists.proofs.FirstLaws.{stays}
 use Rattle.tables.specs.Layout.{newest_edition, table_count, header_words, most_rows}
 use Rattle.tables.specs.Image.{word_at, count_at, offset_at, start_of}
-use Rattle.tables.specs.Header.{Refusal, bad_word, header_shows, table_fault, edition_fault}
-use Rattle.tables.specs.declared.header.Header.{Header}
-use Rattle.tables.specs.declared.header.Header.TheVariants.{Good, Wrong}
+use Rattle.tables.specs.Header.{Refusal, bad_word, table_fault, edition_fault}
 
 module _ (image : List ℕ) (e t : ℕ) where
   pub count_over : most_rows e t < count_at image t → some (bad_word (2 + 2 * t)) ≡ table_fault image e t
@@ -29,12 +27,6 @@ module _ (image : List ℕ) (e t : ℕ) where
   unfolding table_fault expect ◌▷◌
   table_right few right = simp (le-leb _ _ few, eq-eqb _ _ right)
 
--- an answer that is wrong after so many good ones is that of all
-pub stops : (fault : ℕ → Option Refusal) (m n : ℕ) {r : Header} {a : ℕ} → first_fault fault m ≡ none → m < n → header_shows r ≡ fault m → r ≡ Wrong a → header_shows r ≡ first_fault fault n
-stops fault m n {r} {a} before more this wrong =
-    let shown : header_shows r ≡ some (bad_word a) = rw wrong in
-    shown ∙ sym (stays fault m n (bad_word a) before more (sym this ∙ shown))
-
 -- the words before the tables are right
 pub record Begun (image : List ℕ) (e : ℕ) : Type 0 where
   pub long : header_words e ≤ length image
@@ -47,13 +39,16 @@ module _ (image : List ℕ) (e : ℕ) where
   unfolding edition_fault expect ◌▷◌
   too_short short = simp (lt-leb _ _ short)
 
-  pub no_edition : header_words e ≤ length image → e < 1 → some (bad_word 0) ≡ edition_fault image e
+  below_editions : header_words e ≤ length image → e < 1 → some (bad_word 0) ≡ edition_fault image e
   unfolding edition_fault expect ◌▷◌
-  no_edition long below = simp (le-leb _ _ long, lt-leb _ _ below)
+  below_editions long below = simp (le-leb _ _ long, lt-leb _ _ below)
 
-  pub too_new : header_words e ≤ length image → 1 ≤ e → newest_edition < e → some (bad_word 0) ≡ edition_fault image e
+  above_editions : header_words e ≤ length image → 1 ≤ e → newest_edition < e → some (bad_word 0) ≡ edition_fault image e
   unfolding edition_fault expect ◌▷◌
-  too_new long least new = simp (le-leb _ _ long, le-leb _ _ least, lt-leb _ _ new)
+  above_editions long least above = simp (le-leb _ _ long, le-leb _ _ least, lt-leb _ _ above)
+
+  pub no_edition : header_words e ≤ length image → (e < 1) ⊎ ((1 ≤ e) × (newest_edition < e)) → some (bad_word 0) ≡ edition_fault image e
+  no_edition long off = ⊎_elim (below_editions long) (λ above. above_editions long above.0 above.1) off
 
   pub total_off : header_words e ≤ length image → 1 ≤ e → e ≤ newest_edition → (word_at image 1 ≡ length image → ⊥) → some (bad_word 1) ≡ edition_fault image e
   unfolding edition_fault expect ◌▷◌
@@ -64,11 +59,9 @@ module _ (image : List ℕ) (e : ℕ) where
   unfolding edition_fault expect ◌▷◌
   begun b = simp (le-leb _ _ b.long, le-leb _ _ b.some_edition, le-leb _ _ b.known, eq-eqb _ _ b.total)
 
-  pub table_wrong : Begun image e → {r : Header} {a : ℕ} → header_shows r ≡ first_fault (table_fault image e) (table_count e) → r ≡ Wrong a → header_shows r ≡ edition_fault image e
+  pub table_wrong : Begun image e → {bad : Refusal} → some bad ≡ first_fault (table_fault image e) (table_count e) → some bad ≡ edition_fault image e
   unfolding expect ◌▷◌
-  table_wrong b {r} {a} this wrong =
-      let shown : header_shows r ≡ some (bad_word a) = rw wrong in
-      rw (begun b, ← this, shown)
+  table_wrong b this = rw (begun b, ← this)
 
   pub end_off : Begun image e → none ≡ first_fault (table_fault image e) (table_count e) → (start_of image e (table_count e) ≡ length image → ⊥) → {words : ℕ} → words ≡ header_words e → some (bad_word words) ≡ edition_fault image e
   unfolding expect ◌▷◌
@@ -77,7 +70,3 @@ module _ (image : List ℕ) (e : ℕ) where
   pub all_right : Begun image e → none ≡ first_fault (table_fault image e) (table_count e) → start_of image e (table_count e) ≡ length image → none ≡ edition_fault image e
   unfolding expect ◌▷◌
   all_right b good right = rw (begun b, ← good, eq-eqb _ _ right)
-
--- a good answer shows no fault
-pub shows_none : {r : Header} {fault : Option Refusal} → r ≡ Good → header_shows r ≡ fault → none ≡ fault
-shows_none {r} good this = let shown : header_shows r ≡ none = rw good in sym shown ∙ this

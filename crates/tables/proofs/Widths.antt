@@ -1,10 +1,10 @@
 -- What the reader's sums and indices need of the layout. Assumes nothing.
-use Prim.Native.Nat.{ℕ, zero, suc, ◌*◌, ◌^◌, ◌<◌, ◌≤◌, ◌-◌}
-use mathlib.Core.Path.{◌≡◌, refl, ap, ◌∙◌}
+use Prim.Native.Nat.{ℕ, zero, suc, ◌*◌, ◌^◌, ◌<◌, ◌-◌}
+use mathlib.Core.Path.{◌≡◌, refl, sym, ap, ◌∙◌}
 use mathlib.Core.List.{List, [], ◌∷◌, map}
 use native.Mathlib.Nat.{le_of_lt, mul-le-mul_left, lt_of_le_of_lt}
 use native.Mathlib.Omega.{arith}
-use lib.ListN.{length, get_or, get_or-eq_default}
+use lib.ListN.{get_or}
 use Rattle.tables.specs.Layout.{Table, table, edition1, editions, tables_of, row_width, most_rows}
 
 -- there is one edition, whatever the number
@@ -16,30 +16,23 @@ one_edition e = go (e - 1)
     go zero = refl
     go (suc k) = refl
 
-column : (l : List Table) (t : ℕ) (f : Table → ℕ) → f (get_or l t (table 0 0)) ≡ get_or (map f l) t (f (table 0 0))
+column : {A : Type 0} (l : List Table) (t : ℕ) (f : Table → A) → f (get_or l t (table 0 0)) ≡ get_or (map f l) t (f (table 0 0))
 column [] t f = refl
 column (x ∷ l) zero f = refl
 column (x ∷ l) (suc t) f = column l t f
 
-no_table : (t : ℕ) → length edition1 ≤ t → get_or edition1 t (table 0 0) ≡ table 0 0
-no_table t h = get_or-eq_default edition1 (table 0 0) h
-
-pub no_width : (e t : ℕ) → length edition1 ≤ t → row_width e t ≡ 0
-unfolding row_width
-no_width e t h = ap (λ (l : List Table). (get_or l t (table 0 0)).width) (one_edition e) ∙ ap (λ (x : Table). x.width) (no_table t h)
-
-pub no_most_rows : (e t : ℕ) → length edition1 ≤ t → most_rows e t ≡ 0
-unfolding most_rows
-no_most_rows e t h = ap (λ (l : List Table). (get_or l t (table 0 0)).most) (one_edition e) ∙ ap (λ (x : Table). x.most) (no_table t h)
-
--- column by column, the layout is a list of numbers
-pub width_of : (e t : ℕ) → row_width e t ≡ get_or (map (λ (x : Table). x.width) edition1) t 0
-unfolding row_width
-width_of e t = ap (λ (l : List Table). (get_or l t (table 0 0)).width) (one_edition e) ∙ column edition1 t (λ x. x.width)
-
+-- the limits are a list of numbers
 pub most_of : (e t : ℕ) → most_rows e t ≡ get_or (map (λ (x : Table). x.most) edition1) t 0
 unfolding most_rows
 most_of e t = ap (λ (l : List Table). (get_or l t (table 0 0)).most) (one_edition e) ∙ column edition1 t (λ x. x.most)
+
+-- the layout as pairs of both numbers
+abbrev pub pair_of : Table → ℕ × ℕ
+pair_of x = (x.width, x.most)
+
+pub layout_of : (e t : ℕ) → ◌≡◌ {A = ℕ × ℕ} (get_or (map pair_of edition1) t (0, 0)) (row_width e t, most_rows e t)
+unfolding row_width most_rows
+layout_of e t = sym (column edition1 t pair_of) ∙ ap (λ (l : List Table). pair_of (get_or l t (table 0 0))) (sym (one_edition e))
 
 -- a word times a row width: no sum of such comes near the end of `usize`
 pub scaled : (word width : ℕ) → word < 2 ^ 32 → width < 2 ^ 8 → word * width < 2 ^ 40

@@ -1,11 +1,19 @@
 -- The words of each table's rows by name, in their order, and what they mean together.
 -- Assumes nothing.
-use Rattle.std.specs.Prelude.{ℕ, zero, suc, ◌+◌, min, Bool, cond, ◌&&◌, List, eqb, leb, ltb}
+use Rattle.std.specs.Prelude.{ℕ, zero, suc, ◌+◌, ◌<◌, ◌≡◌, min, Bool, cond, ◌&&◌, List, eqb, leb, ltb, Option, Some, None}
 use Rattle.tables.specs.Layout.{NONE, types, references, operations, fragments, sets, selections, arguments, values, variables}
 use Rattle.tables.specs.Image.{count_at, cell_at}
 use Rattle.tables.specs.declared.Range.{Range}
 use Rattle.tables.specs.declared.columns.Set.{Set}
 use Rattle.tables.specs.declared.columns.Selection.{Selection}
+use Rattle.tables.specs.declared.columns.TypeKind.{TypeKind}
+use Rattle.tables.specs.declared.columns.TypeKind.TheVariants as TypeIs
+use Rattle.tables.specs.declared.columns.ReferenceKind.{ReferenceKind}
+use Rattle.tables.specs.declared.columns.ReferenceKind.TheVariants as ReferenceIs
+use Rattle.tables.specs.declared.columns.SelectionKind.{SelectionKind}
+use Rattle.tables.specs.declared.columns.SelectionKind.TheVariants.{Field, Spread, Inline}
+use Rattle.tables.specs.declared.columns.ValueKind.{ValueKind}
+use Rattle.tables.specs.declared.columns.ValueKind.TheVariants as ValueIs
 
 -- words k and k + 1 of a row, as first and count
 abbrev pub range_at : List ℕ → ℕ → ℕ → ℕ → Range
@@ -133,10 +141,33 @@ object_type = 1
 abbrev pub input_object : ℕ
 input_object = 5
 
+abbrev pub type_word : TypeKind → ℕ
+type_word TypeIs.Scalar = 0
+type_word TypeIs.Object = object_type
+type_word TypeIs.Interface = 2
+type_word TypeIs.Union = 3
+type_word TypeIs.Enum = 4
+type_word TypeIs.InputObject = input_object
+
+-- the kind that a word stands for
+abbrev pub IsTypeKind : ℕ → Option TypeKind → Type 0
+IsTypeKind word (Some kind) = word ≡ type_word kind
+IsTypeKind word None = input_object < word
+
 unfoldable pub is_composite : ℕ → Bool
 is_composite kind = leb 1 kind && leb kind 3
 
 -- reference kinds: 0 named, 1 non-null named, 2 list, 3 non-null list
+abbrev pub reference_word : ReferenceKind → ℕ
+reference_word ReferenceIs.Named = 0
+reference_word ReferenceIs.NonNullNamed = 1
+reference_word ReferenceIs.List = 2
+reference_word ReferenceIs.NonNullList = 3
+
+abbrev pub IsReferenceKind : ℕ → Option ReferenceKind → Type 0
+IsReferenceKind word (Some kind) = word ≡ reference_word kind
+IsReferenceKind word None = 3 < word
+
 abbrev pub is_list_reference : ℕ → Bool
 is_list_reference kind = leb 2 kind
 
@@ -162,6 +193,15 @@ spread = 1
 abbrev pub inline : ℕ
 inline = 2
 
+abbrev pub selection_word : SelectionKind → ℕ
+selection_word Field = field
+selection_word Spread = spread
+selection_word Inline = inline
+
+abbrev pub IsSelectionKind : ℕ → Option SelectionKind → Type 0
+IsSelectionKind word (Some kind) = word ≡ selection_word kind
+IsSelectionKind word None = inline < word
+
 -- value kinds: null, boolean, int, float, string, enum, variable, list, object
 abbrev pub null : ℕ
 null = 0
@@ -178,6 +218,21 @@ list = 7
 abbrev pub object : ℕ
 object = 8
 
+abbrev pub value_word : ValueKind → ℕ
+value_word ValueIs.Null = null
+value_word ValueIs.Boolean = boolean
+value_word ValueIs.Int = 2
+value_word ValueIs.Float = 3
+value_word ValueIs.String = 4
+value_word ValueIs.Enum = 5
+value_word ValueIs.Variable = variable
+value_word ValueIs.List = list
+value_word ValueIs.Object = object
+
+abbrev pub IsValueKind : ℕ → Option ValueKind → Type 0
+IsValueKind word (Some kind) = word ≡ value_word kind
+IsValueKind word None = object < word
+
 -- operation i owns set i, fragment j the set (operations + j); NONE past all rows
 unfoldable pub fragment_set : List ℕ → ℕ → ℕ
 fragment_set image j = min (count_at image operations + j) NONE
@@ -188,6 +243,10 @@ is_fragment_set image s = leb (count_at image operations) s && ltb s (count_at i
 -- the set that a selection leads to: its own, its fragment's, or NONE
 unfoldable pub set_below : List ℕ → Selection → ℕ
 set_below image row = cond (eqb row.kind spread) (fragment_set image row.target) row.target
+
+-- the set that a word names; NONE names none
+abbrev pub set_or_none : ℕ → Option ℕ
+set_or_none word = cond (eqb word NONE) None (Some word)
 
 abbrev pub is_empty_set : List ℕ → ℕ → Bool
 is_empty_set image s = eqb (set_selections image s).count 0

@@ -1,12 +1,11 @@
 -- Kind 1: the header of an image, or the first wrong word.
 -- Assumes nothing.
-use Rattle.std.specs.Prelude.{ℕ, ◌+◌, ◌*◌, List, length, leb, eqb}
+use Rattle.std.specs.Prelude.{ℕ, ◌+◌, ◌*◌, List, length, leb, eqb, Result, Ok, Err}
 use Rattle.std.proofs.Math.Option.{Option, none, some}
 use Rattle.lists.specs.First.{expect, ◌▷◌, first_fault}
 use Rattle.tables.specs.Layout.{newest_edition, table_count, header_words, most_rows}
 use Rattle.tables.specs.Image.{word_at, count_at, offset_at, start_of}
-use Rattle.tables.specs.declared.header.Header.{Header}
-use Rattle.tables.specs.declared.header.Header.TheVariants.{Good, Wrong}
+use Rattle.tables.specs.declared.header.BadHeader.{BadHeader}
 
 -- what a reply shows of a refused image: its kind, and its numbers a and b
 pub record Refusal : Type 0 where
@@ -18,9 +17,9 @@ abbrev pub bad_word : ℕ → Refusal
 bad_word a = record { kind = 1; a = a; b = 0 }
 
 -- the answer of the header's reader, by its number
-abbrev pub header_shows : Header → Option Refusal
-header_shows Good = none
-header_shows (Wrong a) = some (bad_word a)
+abbrev pub header_shows : Result (Unit {0}) BadHeader → Option Refusal
+header_shows (Ok _) = none
+header_shows (Err bad) = some (bad_word bad.word)
 
 -- table t: its count, then its offset
 unfoldable pub table_fault : List ℕ → ℕ → ℕ → Option Refusal

@@ -3,7 +3,7 @@
 ghost use Rattle.std.specs.Prelude.{◌≡◌, ◌+◌, ◌≤◌, ◌<◌, ◌*◌, ◌^◌, length};
 ghost use Rattle.tables.specs.Image.{offset_at, width_at, word_at};
 ghost use Rattle.tables.specs.Columns.{type_name, type_kind, reference_kind, reference_child, operation_variables, operation_directives, fragment_directives, set_parent, set_selections, selection_kind, response_name, field_name, field_type, field_arguments, selection_target, selection_directives, argument_name, argument_type, argument_default, value_kind, value_key, value_atom, value_members, variable_name, variable_type, variable_default};
-ghost use Rattle.tables.specs.Columns.{range_at, set_at, selection_at, selection_from, is_composite, innermost, fragment_set, is_fragment_set, set_below, is_empty_set};
+ghost use Rattle.tables.specs.Columns.{range_at, set_at, selection_at, selection_from, is_composite, innermost, fragment_set, is_fragment_set, set_below, set_or_none, is_empty_set, is_list_reference, IsTypeKind, IsReferenceKind, IsSelectionKind, IsValueKind};
 
 use crate::{
     ARGUMENTS, FRAGMENTS, NONE, OPERATIONS, REFERENCES, Range, SELECTIONS, SETS, TYPES, VALUES,
@@ -29,37 +29,112 @@ pub struct Selection {
     pub directives: Range,
 }
 
-// Kinds of types.
-pub const OBJECT: u32 = 1;
+// Kinds of types, by number: a scalar is 0.
+#[derive(Clone, Copy, PartialEq, Eq)]
+pub enum TypeKind {
+    Scalar,
+    Object,
+    Interface,
+    Union,
+    Enum,
+    InputObject,
+}
 
-pub const INPUT_OBJECT: u32 = 5;
+// Kinds of type references, by number: a nullable name is 0.
+#[derive(Clone, Copy, PartialEq, Eq)]
+pub enum ReferenceKind {
+    Named,
+    NonNullNamed,
+    List,
+    NonNullList,
+}
 
-// Kinds of selections.
-pub const FIELD: u32 = 0;
+// Kinds of selections, by number: a field is 0.
+#[derive(Clone, Copy, PartialEq, Eq)]
+pub enum SelectionKind {
+    Field,
+    Spread,
+    Inline,
+}
 
-pub const SPREAD: u32 = 1;
+// Kinds of values, by number: null is 0.
+#[derive(Clone, Copy, PartialEq, Eq)]
+pub enum ValueKind {
+    Null,
+    Boolean,
+    Int,
+    Float,
+    String,
+    Enum,
+    Variable,
+    List,
+    Object,
+}
 
-pub const INLINE: u32 = 2;
+// The kind that a word stands for, if it stands for one.
+pub fn type_kind_of(word: u32) -> Option<TypeKind>
+    ensures { IsTypeKind word result }
+{
+    match word {
+        0 => Some(TypeKind::Scalar),
+        1 => Some(TypeKind::Object),
+        2 => Some(TypeKind::Interface),
+        3 => Some(TypeKind::Union),
+        4 => Some(TypeKind::Enum),
+        5 => Some(TypeKind::InputObject),
+        _ => None,
+    }
+}
 
-// Kinds of values.
-pub const NULL: u32 = 0;
+pub fn reference_kind_of(word: u32) -> Option<ReferenceKind>
+    ensures { IsReferenceKind word result }
+{
+    match word {
+        0 => Some(ReferenceKind::Named),
+        1 => Some(ReferenceKind::NonNullNamed),
+        2 => Some(ReferenceKind::List),
+        3 => Some(ReferenceKind::NonNullList),
+        _ => None,
+    }
+}
 
-pub const BOOLEAN: u32 = 1;
+pub fn selection_kind_of(word: u32) -> Option<SelectionKind>
+    ensures { IsSelectionKind word result }
+{
+    match word {
+        0 => Some(SelectionKind::Field),
+        1 => Some(SelectionKind::Spread),
+        2 => Some(SelectionKind::Inline),
+        _ => None,
+    }
+}
 
-pub const VARIABLE: u32 = 6;
-
-pub const LIST_VALUE: u32 = 7;
-
-pub const OBJECT_VALUE: u32 = 8;
+pub fn value_kind_of(word: u32) -> Option<ValueKind>
+    ensures { IsValueKind word result }
+{
+    match word {
+        0 => Some(ValueKind::Null),
+        1 => Some(ValueKind::Boolean),
+        2 => Some(ValueKind::Int),
+        3 => Some(ValueKind::Float),
+        4 => Some(ValueKind::String),
+        5 => Some(ValueKind::Enum),
+        6 => Some(ValueKind::Variable),
+        7 => Some(ValueKind::List),
+        8 => Some(ValueKind::Object),
+        _ => None,
+    }
+}
 
 // Two words of a row, as first and count. The columns of a range are at most 7.
 fn range(image: &[u32], table: u8, row: u32, column: u8) -> Range
     requires { column ≤ 7 }
     ensures { result ≡ range_at image.now table row column }
 {
-    let first = cell(image, table, row, column);
-    let count = cell(image, table, row, column + 1);
-    Range { first, count }
+    Range {
+        first: cell(image, table, row, column),
+        count: cell(image, table, row, column + 1),
+    }
 }
 
 // A type.
@@ -228,23 +303,24 @@ pub fn variable_default(image: &[u32], row: u32) -> u32
 }
 
 // A whole row at once, with one look at the image's end; where that comes too soon, word by word.
+#[tactic(auto, unfolding(crate::specs::Image::cell_at, crate::specs::Image::word_at))]
 pub fn set_row(image: &[u32], row: u32) -> Set
     ensures { result ≡ set_at image.now row }
 {
     let at = row_start(image, SETS, row);
     if at + 3 <= image.len() {
-        let selections = Range {
-            first: image[at + 1],
-            count: image[at + 2],
-        };
         return Set {
             parent: image[at],
-            selections,
+            selections: Range {
+                first: image[at + 1],
+                count: image[at + 2],
+            },
         };
     }
-    let parent = set_parent(image, row);
-    let selections = set_selections(image, row);
-    Set { parent, selections }
+    Set {
+        parent: set_parent(image, row),
+        selections: set_selections(image, row),
+    }
 }
 
 fn row_start(image: &[u32], table: u8, row: u32) -> usize
@@ -254,6 +330,7 @@ fn row_start(image: &[u32], table: u8, row: u32) -> usize
     (offset(image, table) as usize) + above
 }
 
+#[tactic(auto, unfolding(crate::specs::Image::cell_at))]
 pub fn selection_row(image: &[u32], row: u32) -> Selection
     ensures { result ≡ selection_at image.now row }
 {
@@ -264,58 +341,61 @@ pub fn selection_row(image: &[u32], row: u32) -> Selection
     selection_by_words(image, row)
 }
 
+#[tactic(auto, unfolding(crate::specs::Image::word_at))]
 fn selection_at(image: &[u32], at: usize) -> Selection
     requires { at + 9 ≤ length image.now }
     ensures { result ≡ selection_from (word_at image.now) at }
 {
-    let arguments = Range {
-        first: image[at + 4],
-        count: image[at + 5],
-    };
-    let directives = Range {
-        first: image[at + 7],
-        count: image[at + 8],
-    };
     Selection {
         kind: image[at],
         response: image[at + 1],
         name: image[at + 2],
         reference: image[at + 3],
-        arguments,
+        arguments: Range {
+            first: image[at + 4],
+            count: image[at + 5],
+        },
         target: image[at + 6],
-        directives,
+        directives: Range {
+            first: image[at + 7],
+            count: image[at + 8],
+        },
     }
 }
 
 fn selection_by_words(image: &[u32], row: u32) -> Selection
     ensures { result ≡ selection_at image.now row }
 {
-    let kind = selection_kind(image, row);
-    let response = response_name(image, row);
-    let name = field_name(image, row);
-    let reference = field_type(image, row);
-    let arguments = field_arguments(image, row);
-    let target = selection_target(image, row);
-    let directives = selection_directives(image, row);
     Selection {
-        kind,
-        response,
-        name,
-        reference,
-        arguments,
-        target,
-        directives,
+        kind: selection_kind(image, row),
+        response: response_name(image, row),
+        name: field_name(image, row),
+        reference: field_type(image, row),
+        arguments: field_arguments(image, row),
+        target: selection_target(image, row),
+        directives: selection_directives(image, row),
     }
 }
 
 // Objects, interfaces and unions.
+#[tactic(auto, unfolding(crate::specs::Columns::is_composite))]
 pub fn is_composite(kind: u32) -> bool
     ensures { result ≡ is_composite kind }
 {
-    if kind < 1 {
-        return false;
-    }
-    kind <= 3
+    matches!(
+        type_kind_of(kind),
+        Some(TypeKind::Object | TypeKind::Interface | TypeKind::Union)
+    )
+}
+
+// A word that is no kind counts as a list.
+fn is_list_reference(kind: u32) -> bool
+    ensures { result ≡ is_list_reference kind }
+{
+    !matches!(
+        reference_kind_of(kind),
+        Some(ReferenceKind::Named | ReferenceKind::NonNullNamed)
+    )
 }
 
 // The type at the core of a reference. Children of lists are earlier references; where one is not, NONE.
@@ -323,7 +403,7 @@ pub fn innermost(image: &[u32], reference: u32) -> u32
     ensures { result ≡ innermost image.now reference }
 {
     let mut row = reference;
-    while 2 <= reference_kind(image, row) {
+    while is_list_reference(reference_kind(image, row)) {
         let child = reference_child(image, row);
         if row <= child {
             return NONE;
@@ -334,37 +414,51 @@ pub fn innermost(image: &[u32], reference: u32) -> u32
 }
 
 // The set of a fragment; NONE past all rows.
+#[tactic(auto, unfolding(crate::specs::Columns::fragment_set))]
 pub fn fragment_set(image: &[u32], fragment: u32) -> u32
     ensures { result ≡ fragment_set image.now fragment }
 {
-    let set = (count(image, OPERATIONS) as u64) + (fragment as u64);
-    if set < 4294967295 { set as u32 } else { NONE }
+    count(image, OPERATIONS).saturating_add(fragment)
 }
 
 // Whether a set is a fragment's, and not an operation's or a selection's own.
+#[tactic(auto, unfolding(crate::specs::Columns::is_fragment_set))]
 pub fn is_fragment_set(image: &[u32], set: u32) -> bool
     ensures { result ≡ is_fragment_set image.now set }
 {
-    let operations = count(image, OPERATIONS) as u64;
-    if (set as u64) < operations {
-        return false;
-    }
-    (set as u64) < operations + (count(image, FRAGMENTS) as u64)
+    let operations = count(image, OPERATIONS);
+    let fragments = count(image, FRAGMENTS);
+    operations <= set && (set as u64) < (operations as u64) + (fragments as u64)
 }
 
-// The set that a selection leads to: its own, its fragment's, or NONE.
-pub fn set_below(image: &[u32], row: Selection) -> u32
-    ensures { result ≡ set_below image.now row }
+// The set that a word names; NONE names none.
+fn named_set(word: u32) -> Option<u32>
+    ensures { result ≡ set_or_none word }
 {
-    if row.kind == SPREAD {
-        fragment_set(image, row.target)
+    (word != NONE).then_some(word)
+}
+
+// The set that a selection leads to: its own or its fragment's.
+#[tactic(auto, unfolding(crate::specs::Columns::set_below))]
+pub fn set_below(image: &[u32], row: Selection) -> Option<u32>
+    ensures { result ≡ set_or_none (set_below image.now row) }
+{
+    if row.kind == SelectionKind::Spread as u32 {
+        named_set(fragment_set(image, row.target))
     } else {
-        row.target
+        named_set(row.target)
     }
+}
+
+// The set that a field or an inline owns.
+pub fn own_set(image: &[u32], row: u32) -> Option<u32>
+    ensures { result ≡ set_or_none (selection_target image.now row) }
+{
+    named_set(selection_target(image, row))
 }
 
 pub fn is_empty_set(image: &[u32], set: u32) -> bool
     ensures { result ≡ is_empty_set image.now set }
 {
-    cell(image, SETS, set, 2) == 0
+    set_selections(image, set).count == 0
 }

@@ -9,14 +9,14 @@ use crate::{count, header_words, most_rows, offset, row_width, span, table_count
 
 const NEWEST_EDITION: u32 = 1;
 
-// What is right of a header: all, or the first wrong word is the one given.
+// The first word of a header that is wrong.
 #[derive(Clone, Copy)]
-pub enum Header {
-    Good,
-    Wrong(u32),
+pub struct BadHeader {
+    pub word: u32,
 }
 
 // Where a table ends by its own words, and where it must start by the words before.
+#[tactic(auto, unfolding(crate::specs::Image::end_of))]
 fn end_of(image: &[u32], edition: u32, table: u8) -> usize
     ensures { result ≡ end_of image.now edition table }
 {
@@ -24,6 +24,7 @@ fn end_of(image: &[u32], edition: u32, table: u8) -> usize
     offset(image, table) as usize + words
 }
 
+#[tactic(auto, unfolding(crate::specs::Image::start_of))]
 fn start_of(image: &[u32], edition: u32, table: u8) -> usize
     ensures { result ≡ start_of image.now edition table }
 {
@@ -34,33 +35,31 @@ fn start_of(image: &[u32], edition: u32, table: u8) -> usize
     }
 }
 
-// The two header words of one table are right, or the first wrong one.
-fn check_table(image: &[u32], edition: u32, table: u8) -> Header
+// The two header words of one table.
+fn check_table(image: &[u32], edition: u32, table: u8) -> Result<(), BadHeader>
     ensures { header_shows result ≡ table_fault image.now edition table }
 {
     if most_rows(edition, table) < count(image, table) {
-        return Header::Wrong(2 + 2 * (table as u32));
+        return Err(BadHeader {
+            word: 2 + 2 * (table as u32),
+        });
     }
     if offset(image, table) as usize != start_of(image, edition, table) {
-        return Header::Wrong(3 + 2 * (table as u32));
+        return Err(BadHeader {
+            word: 3 + 2 * (table as u32),
+        });
     }
-    Header::Good
+    Ok(())
 }
 
 // The same of all tables, in order.
-fn check_tables(image: &[u32], edition: u32) -> Header
+fn check_tables(image: &[u32], edition: u32) -> Result<(), BadHeader>
     ensures { header_shows result ≡ first_fault (table_fault image.now edition) (table_count edition) }
 {
-    let tables = table_count(edition);
-    let mut table: u8 = 0;
-    while table < tables {
-        let answer = check_table(image, edition, table);
-        let Header::Good = answer else {
-            return answer;
-        };
-        table += 1;
+    for table in 0..table_count(edition) {
+        check_table(image, edition, table)?;
     }
-    Header::Good
+    Ok(())
 }
 
 fn last_end(image: &[u32], edition: u32) -> usize
@@ -70,35 +69,31 @@ fn last_end(image: &[u32], edition: u32) -> usize
 }
 
 // The header as the edition has it.
-fn check_edition(image: &[u32], edition: u32) -> Header
+fn check_edition(image: &[u32], edition: u32) -> Result<(), BadHeader>
     ensures { header_shows result ≡ edition_fault image.now edition }
 {
     let words = header_words(edition);
     let length = image.len();
     if length < words as usize {
-        return Header::Wrong(length as u32);
+        return Err(BadHeader {
+            word: length as u32,
+        });
     }
-    if edition < 1 {
-        return Header::Wrong(0);
-    }
-    if NEWEST_EDITION < edition {
-        return Header::Wrong(0);
+    if edition < 1 || NEWEST_EDITION < edition {
+        return Err(BadHeader { word: 0 });
     }
     if word(image, 1) as usize != length {
-        return Header::Wrong(1);
+        return Err(BadHeader { word: 1 });
     }
-    let answer = check_tables(image, edition);
-    let Header::Good = answer else {
-        return answer;
-    };
+    check_tables(image, edition)?;
     if last_end(image, edition) != length {
-        return Header::Wrong(words);
+        return Err(BadHeader { word: words });
     }
-    Header::Good
+    Ok(())
 }
 
-// The header of an image: good, or what reply kind 1 shows.
-pub fn check_header(image: &[u32]) -> Header
+// The header of an image: the first wrong word, if there is one, is what reply kind 1 shows.
+pub fn check_header(image: &[u32]) -> Result<(), BadHeader>
     ensures { header_shows result ≡ header_fault image.now }
 {
     check_edition(image, word(image, 0))

@@ -15,7 +15,8 @@ pub mod header;
 pub mod keys;
 pub mod lookup;
 
-pub const NONE: u32 = 4294967295;
+// The word that stands for no row.
+pub const NONE: u32 = u32::MAX;
 
 pub const TYPES: u8 = 0;
 
@@ -35,34 +36,45 @@ pub const VALUES: u8 = 7;
 
 pub const VARIABLES: u8 = 8;
 
-// The layout by table. There is one edition so far, and a number that is no edition is read as that one.
-const WIDTHS: [u8; 9] = [2, 2, 4, 2, 3, 9, 3, 4, 3];
+// The tables in their order: the words in a row, and how many rows at most. There is one edition so far, and a number that is no
+// edition is read as that one.
+const TABLES: [(u8, u32); 9] = [
+    (2, 4096),
+    (2, 8192),
+    (4, 64),
+    (2, 512),
+    (3, 4096),
+    (9, 8192),
+    (3, 8192),
+    (4, 16384),
+    (3, 1024),
+];
 
-const MOST_ROWS: [u32; 9] = [4096, 8192, 64, 512, 4096, 8192, 8192, 16384, 1024];
-
+#[tactic(auto, using(crate::proofs::Widths::one_edition), unfolding(crate::specs::Layout::table_count))]
 pub fn table_count(edition: u32) -> u8
     ensures { result ≡ table_count edition }
 {
     9
 }
 
+// The row width and the most rows of a table; none where there is no such table.
+fn layout(edition: u32, table: u8) -> (u8, u32)
+    ensures { (result.0 ≡ row_width edition table) × (result.1 ≡ most_rows edition table) }
+{
+    TABLES.get(table as usize).copied().unwrap_or((0, 0))
+}
+
 // The words in a row.
 pub fn row_width(edition: u32, table: u8) -> u8
     ensures { result ≡ row_width edition table }
 {
-    if 9 <= table {
-        return 0;
-    }
-    WIDTHS[table as usize]
+    layout(edition, table).0
 }
 
 pub fn most_rows(edition: u32, table: u8) -> u32
     ensures { result ≡ most_rows edition table }
 {
-    if 9 <= table {
-        return 0;
-    }
-    MOST_ROWS[table as usize]
+    layout(edition, table).1
 }
 
 pub fn header_words(edition: u32) -> u32
@@ -72,6 +84,7 @@ pub fn header_words(edition: u32) -> u32
 }
 
 // Word `at` of the image; 0 past the end.
+#[tactic(auto, unfolding(crate::specs::Image::word_at))]
 pub fn word(image: &[u32], at: usize) -> u32
     ensures { result ≡ word_at image.now at }
 {
@@ -92,6 +105,7 @@ pub fn offset(image: &[u32], table: u8) -> u32
 }
 
 // The words of so many rows: far from the end of `usize`, so that sums with it fit.
+#[tactic(auto, using(crate::proofs::Widths::scaled))]
 fn span(rows: u32, width: u8) -> usize
     ensures { (result ≡ rows * width) × (result < 2 ^ 40) }
 {
@@ -99,6 +113,7 @@ fn span(rows: u32, width: u8) -> usize
 }
 
 // The word of a table at a row and a column.
+#[tactic(auto, unfolding(crate::specs::Image::cell_at))]
 pub fn cell(image: &[u32], table: u8, row: u32, column: u8) -> u32
     ensures { result ≡ cell_at image.now table row column }
 {
@@ -114,17 +129,19 @@ pub struct Range {
     pub count: u32,
 }
 
-// The row that stands `i` rows into a range; NONE past all rows.
-pub fn row_in(range: Range, i: u32) -> u32
-    ensures { result ≡ row_in range i }
-{
-    let row = (range.first as u64) + (i as u64);
-    if row < 4294967295 { row as u32 } else { NONE }
-}
+impl Range {
+    // The row that stands `i` rows into a range; NONE past all rows.
+    #[tactic(auto, unfolding(crate::specs::Image::row_in))]
+    pub fn row(self, i: u32) -> u32
+        ensures { result ≡ row_in self i }
+    {
+        self.first.saturating_add(i)
+    }
 
-// Whether a range lies within so many rows. The sum is a plain number.
-pub fn lies_within(range: Range, rows: u32) -> bool
-    ensures { result ≡ lies_within range rows }
-{
-    (range.first as u64) + (range.count as u64) <= (rows as u64)
+    // Whether a range lies within so many rows. The sum is a plain number.
+    pub fn lies_within(self, rows: u32) -> bool
+        ensures { result ≡ lies_within self rows }
+    {
+        (self.first as u64) + (self.count as u64) <= (rows as u64)
+    }
 }

@@ -3,17 +3,18 @@ ghost use Rattle.std.specs.Prelude.{◌≡◌};
 ghost use Rattle.tables.specs.Lookup.{rows_place, set_place, PartOf};
 
 use crate::columns::set_selections;
-use crate::header::{Header, check_header};
-use crate::{Range, SELECTIONS, SETS, count, lies_within, offset, row_width, span, word};
+use crate::header::check_header;
+use crate::{Range, SELECTIONS, SETS, count, offset, row_width, span, word};
 
-// Where a part of the image stands: its first word and how many words, or nowhere.
+// Where a part of the image stands: its first word, and how many words.
 #[derive(Clone, Copy)]
-pub enum Place {
-    At(usize, usize),
-    Nowhere,
+pub struct Place {
+    pub start: usize,
+    pub words: usize,
 }
 
 // Where a range of selections stands.
+#[tactic(auto, unfolding(crate::specs::Lookup::rows_place))]
 fn rows_place(image: &[u32], rows: Range) -> Place
     ensures { result ≡ rows_place image.now rows }
 {
@@ -21,34 +22,33 @@ fn rows_place(image: &[u32], rows: Range) -> Place
     let start = offset(image, SELECTIONS) as usize;
     let above = span(rows.first, width);
     let words = span(rows.count, width);
-    Place::At(start + above, words)
+    Place {
+        start: start + above,
+        words,
+    }
 }
 
-// Where the selections of a set stand.
-pub fn set_place(image: &[u32], set: u32) -> Place
+// Where the selections of a set stand; nowhere on a bad header, set number or range.
+pub fn set_place(image: &[u32], set: u32) -> Option<Place>
     ensures { result ≡ set_place image.now set }
 {
-    let header = check_header(image);
-    let Header::Good = header else {
-        return Place::Nowhere;
-    };
+    check_header(image).ok()?;
     if count(image, SETS) <= set {
-        return Place::Nowhere;
+        return None;
     }
     let rows = set_selections(image, set);
-    if lies_within(rows, count(image, SELECTIONS)) {
-        return rows_place(image, rows);
+    if !rows.lies_within(count(image, SELECTIONS)) {
+        return None;
     }
-    Place::Nowhere
+    Some(rows_place(image, rows))
 }
 
 // The selections of a set; where there is none, the empty part at the end.
 pub fn set_part<'a>(image: &'a [u32], set: u32) -> &'a [u32]
     ensures { PartOf image.entry (set_place image.now set) result }
 {
-    let place = set_place(image, set);
-    let Place::At(start, words) = place else {
-        return &image[image.len()..];
-    };
-    &image[start..start + words]
+    match set_place(image, set) {
+        Some(place) => &image[place.start..place.start + place.words],
+        None => &image[image.len()..],
+    }
 }

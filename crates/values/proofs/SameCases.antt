@@ -1,16 +1,18 @@
 -- What `same_list`, `same_set` and `same_value` are in each case that the code tells apart: a law for each `return` of the
 -- comparers, in terms of the definitions alone.
 -- Assumes nothing.
-use Prim.Native.Nat.{ℕ, zero, suc, ◌-◌, ◌<◌}
+use Prim.Native.Nat.{ℕ, zero, suc, ◌-◌, ◌<◌, ◌≤◌}
 use mathlib.Core.Path.{◌≡◌, refl, sym, ◌∙◌}
-use mathlib.Core.Bool.{Bool, true, false, not}
+use mathlib.Core.Bool.{Bool, true, false}
 use mathlib.Core.List.{List}
 use native.Mathlib.Numerals.{sub-one}
 use borrow.Author.Tests.{eq-eqb, ne_eqb}
 use lib.Dec.{eqb}
-use Rattle.lists.specs.Every.{absent}
+use native.Mathlib.Omega.{arith}
+use Rattle.std.specs.Prelude.{Some, None}
+use Rattle.lists.specs.Every.{absent, found}
 use Rattle.lists.proofs.Tests.{both, second_fails}
-use Rattle.lists.proofs.EveryLaws.{every_intro, every_fails}
+use Rattle.lists.proofs.EveryLaws.{every_intro, every_fails, position_le, some_found, none_found}
 use Rattle.tables.specs.declared.Range.{Range}
 use Rattle.tables.specs.Layout.{values}
 use Rattle.tables.specs.Image.{row_in}
@@ -44,12 +46,18 @@ module _ (key : ℕ → ℕ) (rows : Range) (wanted : ℕ) where
 
 -- what a search found, for the key of a row that was read
 module _ (key : ℕ → ℕ) (rows : Range) (row : ℕ) {read wanted : ℕ} (at : read ≡ row) (of_row : wanted ≡ key read) where
-  pub searched : {b : Bool} → b ≡ absent rows.count (λ k. key (row_in rows k)) wanted → not b ≡ has_key key rows (key row)
-  unfolding has_key
-  searched e = rw (e, of_row, at)
+  pub key_missing : None ≡ found rows.count (place_of key rows wanted) → place_of key rows (key row) ≡ rows.count
+  key_missing e =
+      let same : place_of key rows (key row) ≡ place_of key rows wanted = rw (of_row, at) in
+      let past : rows.count ≤ place_of key rows wanted = none_found e in
+      omega (arith, position_le rows.count (λ k. eqb (key (row_in rows k)) wanted))
 
-  pub found : {place : ℕ} → place ≡ place_of key rows wanted → place ≡ place_of key rows (key row)
-  found e = rw (e, of_row, at)
+  pub key_there : {place : ℕ} → Some place ≡ found rows.count (place_of key rows wanted)
+      → (place ≡ place_of key rows (key row)) × (place_of key rows (key row) ≡ rows.count → ⊥)
+  key_there {place} e =
+      let there = some_found e in
+      let same : place_of key rows wanted ≡ place_of key rows (key row) = rw (of_row, at) in
+      (sym there.0 ∙ same, λ none. let below : place_of key rows wanted < rows.count = there.1 in omega arith)
 
 module _ (key : ℕ → ℕ) (same : ℕ → ℕ → Bool) (right : Range) (row : ℕ) where
   pub unmatched_key : place_of key right (key row) ≡ right.count → matched key same right row ≡ false

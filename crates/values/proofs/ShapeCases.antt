@@ -7,53 +7,30 @@ use mathlib.Core.Logic.{◌⊎◌, inl, inr, ⊎_elim}
 use mathlib.Core.Bool.{Bool, true, false, cond, ◌&&◌}
 use mathlib.Core.List.{List}
 use native.Mathlib.Omega.{arith}
-use borrow.Author.Tests.{ne_eqb, le-leb, lt-leb, lt-ltb, le-ltb, ltb-true}
-use lib.Dec.{eqb, leb, ltb}
+use borrow.Author.Tests.{eq-eqb, ne_eqb, le-leb, lt-leb, lt-ltb, le-ltb, ltb-true}
+use lib.Dec.{leb, ltb}
 use Rattle.lists.proofs.Tests.{second_fails}
-use Rattle.tables.specs.Columns.{type_kind, reference_kind, reference_child, is_composite}
-use Rattle.values.specs.declared.shape.Wrappers.{Wrappers}
-use Rattle.values.specs.declared.shape.Wrappers.TheVariants.{Unlike, Names, Lists}
-use Rattle.values.specs.Shape.{is_leaf, are_names, are_lists, both_wrappers, same_named, same_shape_in, same_shape}
+use Rattle.tables.specs.Columns.{reference_kind, reference_child}
+use Rattle.values.specs.Shape.{is_leaf, are_names, are_lists, same_named, same_shape_in, same_shape}
 
 -- ---- two reference kinds
 
 module _ (left right : ℕ) where
-  pub unlike : (left ≡ right → ⊥) → Unlike ≡ both_wrappers left right
-  unfolding both_wrappers are_names are_lists
-  unlike ne = rw (ne_eqb _ _ ne, second_fails (leb left 1) refl, second_fails (leb 2 left && leb left 3) refl)
+  unlike : (left ≡ right → ⊥) → (are_names left right ≡ false) × (are_lists left right ≡ false)
+  unfolding are_names are_lists
+  unlike ne = (rw (ne_eqb _ _ ne, second_fails (leb left 1) refl), rw (ne_eqb _ _ ne, second_fails (leb 2 left && leb left 3) refl))
 
-  pub no_kind : 3 < left → Unlike ≡ both_wrappers left right
-  unfolding both_wrappers are_names are_lists
-  no_kind h = rw (lt-leb left 1 (omega arith), le-leb 2 left (omega arith), lt-leb left 3 h)
+  no_kind : 3 < left → (are_names left right ≡ false) × (are_lists left right ≡ false)
+  unfolding are_names are_lists
+  no_kind h = (rw (lt-leb left 1 (omega arith)), rw (le-leb 2 left (omega arith), lt-leb left 3 h))
 
--- what the answer tells of the kinds
-module _ (left right : ℕ) where
-  told_unlike : both_wrappers left right ≡ Unlike → (are_names left right ≡ false) × (are_lists left right ≡ false)
-  unfolding both_wrappers
-  told_unlike = go (are_names left right) (are_lists left right)
-    where
-      go : (names lists : Bool) → cond names Names (cond lists Lists Unlike) ≡ Unlike → (names ≡ false) × (lists ≡ false)
-      go true lists e = let z : ◌≡◌ {A = ℕ} 0 1 = cc in absurd (omega arith)
-      go false true e = let z : ◌≡◌ {A = ℕ} 0 1 = cc in absurd (omega arith)
-      go false false e = (refl, refl)
+  names : left ≡ right → left ≤ 1 → are_names left right ≡ true
+  unfolding are_names
+  names e low = rw (le-leb left 1 low, eq-eqb _ _ e)
 
-  told_names : both_wrappers left right ≡ Names → are_names left right ≡ true
-  unfolding both_wrappers
-  told_names = go (are_names left right) (are_lists left right)
-    where
-      go : (names lists : Bool) → cond names Names (cond lists Lists Unlike) ≡ Names → names ≡ true
-      go true lists e = refl
-      go false true e = let z : ◌≡◌ {A = ℕ} 0 1 = cc in absurd (omega arith)
-      go false false e = let z : ◌≡◌ {A = ℕ} 0 1 = cc in absurd (omega arith)
-
-  told_lists : both_wrappers left right ≡ Lists → (are_names left right ≡ false) × (are_lists left right ≡ true)
-  unfolding both_wrappers
-  told_lists = go (are_names left right) (are_lists left right)
-    where
-      go : (names lists : Bool) → cond names Names (cond lists Lists Unlike) ≡ Lists → (names ≡ false) × (lists ≡ true)
-      go true lists e = let z : ◌≡◌ {A = ℕ} 0 1 = cc in absurd (omega arith)
-      go false true e = (refl, refl)
-      go false false e = let z : ◌≡◌ {A = ℕ} 0 1 = cc in absurd (omega arith)
+  lists : left ≡ right → 2 ≤ left → left ≤ 3 → (are_names left right ≡ false) × (are_lists left right ≡ true)
+  unfolding are_names are_lists
+  lists e low high = (rw (lt-leb left 1 (omega arith)), rw (le-leb 2 left low, le-leb left 3 high, eq-eqb _ _ e))
 
 -- ---- two type kinds
 
@@ -64,23 +41,6 @@ a_leaf kind e = ⊎_elim (λ h. rw h) (λ h. rw h) e
 pub no_leaf : (kind : ℕ) → ((kind ≡ 0) ⊎ (kind ≡ 4) → ⊥) → is_leaf kind ≡ false
 unfolding is_leaf
 no_leaf kind ne = rw (ne_eqb kind 0 (λ h. ne (inl h)), ne_eqb kind 4 (λ h. ne (inr h)))
-
-module _ (image : List ℕ) (left right : ℕ) {ours theirs : ℕ} (read : ours ≡ type_kind image left) (other : theirs ≡ type_kind image right) where
-  pub two_leaves : is_leaf ours ≡ true → is_leaf theirs ≡ true → eqb left right ≡ same_named image left right
-  unfolding same_named
-  two_leaves l r = rw (← read, ← other, l, r)
-
-  pub one_leaf : is_leaf ours ≡ true → is_leaf theirs ≡ false → false ≡ same_named image left right
-  unfolding same_named
-  one_leaf l r = rw (← read, ← other, l, r)
-
-  pub two_composites : is_leaf ours ≡ false → is_composite ours ≡ true → {b : Bool} → is_composite theirs ≡ b → b ≡ same_named image left right
-  unfolding same_named
-  two_composites n l r = rw (← read, ← other, n, l, r)
-
-  pub no_composite : is_leaf ours ≡ false → is_composite ours ≡ false → false ≡ same_named image left right
-  unfolding same_named
-  no_composite n l = rw (← read, ← other, n, l)
 
 -- ---- two references
 
@@ -120,22 +80,28 @@ module _ (image : List ℕ) where
       go true false e = refl
       go true true e = shape_steps l (suc (reference_child image l)) (reference_child image l) (reference_child image r) (ltb-true _ _ e) (omega arith)
 
-  -- the comparison of the two kinds told this
-  module _ (l r : ℕ) {both : Wrappers} (told : both ≡ both_wrappers (reference_kind image l) (reference_kind image r)) where
-    pub shape_unlike : both ≡ Unlike → false ≡ same_shape image l r
-    shape_unlike e = let h = told_unlike _ _ (sym told ∙ e) in rw (shape_step, h.0, h.1)
+  -- two references whose kinds were read
+  module _ (l r : ℕ) {kind other : ℕ} (mine : kind ≡ reference_kind image l) (its : other ≡ reference_kind image r) where
+    pub shape_unlike : (kind ≡ other → ⊥) → false ≡ same_shape image l r
+    shape_unlike ne = let h = unlike (reference_kind image l) (reference_kind image r) (λ e. ne (mine ∙ e ∙ sym its)) in rw (shape_step, h.0, h.1)
+
+    pub shape_no_kind : 3 < kind → false ≡ same_shape image l r
+    shape_no_kind over = let h = no_kind (reference_kind image l) (reference_kind image r) (omega arith) in rw (shape_step, h.0, h.1)
 
     -- two lists, of which the left's child is no earlier reference
-    pub shape_endless : both ≡ Lists → l ≤ reference_child image l → false ≡ same_shape image l r
-    shape_endless e h = let lists = told_lists _ _ (sym told ∙ e) in rw (shape_step, lists.0, lists.1, le-ltb _ _ h)
+    pub shape_endless : kind ≡ other → 2 ≤ kind → kind ≤ 3 → l ≤ reference_child image l → false ≡ same_shape image l r
+    shape_endless e low high h =
+        let both = lists (reference_kind image l) (reference_kind image r) (sym mine ∙ e ∙ its) (omega arith) (omega arith) in
+        rw (shape_step, both.0, both.1, le-ltb _ _ h)
 
     -- else the children, as they were read, decide
-    module _ {below across : ℕ} (read : below ≡ reference_child image l) (other : across ≡ reference_child image r) where
-      pub shape_names : both ≡ Names → same_named image below across ≡ same_shape image l r
-      shape_names e = rw (read, other, shape_step, told_names _ _ (sym told ∙ e))
+    module _ {below across : ℕ} (read : below ≡ reference_child image l) (beside : across ≡ reference_child image r) where
+      pub shape_names : kind ≡ other → kind ≤ 1 → same_named image below across ≡ same_shape image l r
+      shape_names e low =
+          rw (read, beside, shape_step, names (reference_kind image l) (reference_kind image r) (sym mine ∙ e ∙ its) (omega arith))
 
-      pub shape_items : both ≡ Lists → below < l → same_shape image below across ≡ same_shape image l r
-      shape_items e h =
+      pub shape_items : kind ≡ other → 2 ≤ kind → kind ≤ 3 → below < l → same_shape image below across ≡ same_shape image l r
+      shape_items e low high h =
           let less : reference_child image l < l = omega arith in
-          let lists = told_lists _ _ (sym told ∙ e) in
-          rw (read, other) (sym (rw (shape_step l r, lists.0, lists.1, lt-ltb _ _ less)))
+          let both = lists (reference_kind image l) (reference_kind image r) (sym mine ∙ e ∙ its) (omega arith) (omega arith) in
+          rw (read, beside) (sym (rw (shape_step l r, both.0, both.1, lt-ltb _ _ less)))

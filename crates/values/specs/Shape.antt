@@ -3,8 +3,6 @@
 -- Assumes nothing.
 use Rattle.std.specs.Prelude.{ℕ, zero, suc, Bool, false, cond, ◌&&◌, ◌||◌, List, eqb, leb, ltb}
 use Rattle.tables.specs.Columns.{type_kind, reference_kind, reference_child, is_composite}
-use Rattle.values.specs.declared.shape.Wrappers.{Wrappers}
-use Rattle.values.specs.declared.shape.Wrappers.TheVariants.{Unlike, Names, Lists}
 
 -- type kinds 0 and 4
 abbrev pub scalar : ℕ
@@ -22,9 +20,6 @@ are_names left right = leb left 1 && eqb left right
 
 unfoldable pub are_lists : ℕ → ℕ → Bool
 are_lists left right = leb 2 left && leb left 3 && eqb left right
-
-unfoldable pub both_wrappers : ℕ → ℕ → Wrappers
-both_wrappers left right = cond (are_names left right) Names (cond (are_lists left right) Lists Unlike)
 
 module _ (image : List ℕ) where
   -- leaves need one type; any two composites agree

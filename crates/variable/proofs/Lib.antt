@@ -1,8 +1,10 @@
 -- The laws that the proofs cite, and that a crate above may.
+pub mod FoundLaws
 pub mod TypeLaws
 pub mod TypeMeaning
 pub mod NameLaws
 pub mod UseLaws
+pub mod TallyLaws
 pub mod VerdictLaws
 pub mod Covers
 pub mod UseMeaning

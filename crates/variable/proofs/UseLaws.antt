@@ -5,9 +5,11 @@ use mathlib.Core.Logic.{◌⊎◌, inl, inr}
 use mathlib.Core.List.{List, ◌++◌}
 use Prim.Native.Nat.{ℕ, ◌+◌, ◌-◌, ◌≤◌, ◌<◌, min, max}
 use native.Mathlib.Omega.{arith}
+use mathlib.Core.Bool.{Bool, true, false}
+use lib.Dec.{eqb, leb}
 use lib.ListN.{length, get_or, set, replicate, length-replicate, length-set, replicate-append-replicate, get_or-eq_default, take, drop}
 use lib.Seq.{take-set-lt, drop-set-add, set_out}
-use borrow.Author.Tests.{lt-ltb, le-ltb, le-leb, lt-leb, eq-eqb, ne_eqb}
+use borrow.Author.Tests.{lt-ltb, le-ltb}
 use Rattle.lists.specs.Part.{part, write, Stores, Outside}
 use Rattle.lists.proofs.Parts.{set_outside, outside_wider, outside_trans, outside_none, stores_kept, stores_length, stores_get_or, stores_written, stores_split, write_outside, write_none, le_or_lt}
 use Rattle.tables.specs.declared.Range.{Range}
@@ -124,26 +126,26 @@ module _ (image : List ℕ) where
 
   -- ---- a selection
 
-  module _ {s s₁ s₂ : List ℕ} (r : ℕ) {row : Selection} (read : row ≡ selection_at image r)
+  module _ {s s₁ s₂ : List ℕ} (r : ℕ) {row : Selection} {spreads : Bool} (read : row ≡ selection_at image r) (kind : spreads ≡ eqb row.kind spread)
       (p : Steps image (reach_range image row.arguments) s s₁) (q : Steps image (reach_range image row.directives) s₁ s₂) where
     own : Steps image (λ u. reach_range image (selection_directives image r) (reach_range image (field_arguments image r) u)) s s₂
     own =
         steps_then (range_at_lem row.arguments (field_arguments image r) p (ap (λ (x : Selection). x.arguments) read))
         (range_at_lem row.directives (selection_directives image r) q (ap (λ (x : Selection). x.directives) read))
 
-    kind_is : row.kind ≡ selection_kind image r
-    kind_is = ap (λ (x : Selection). x.kind) read
+    kind_is : spreads ≡ eqb (selection_kind image r) spread
+    kind_is = kind ∙ ap (λ (x : Selection). eqb x.kind spread) read
 
-    pub plain_reached : (row.kind ≡ spread → ⊥) → Steps image (reach_selection image r) s s₂
+    pub plain_reached : spreads ≡ false → Steps image (reach_selection image r) s s₂
     unfolding reach_selection
-    plain_reached n = steps_as own (λ u k. rw (ne_eqb _ _ (λ e. n (kind_is ∙ e))))
+    plain_reached e = steps_as own (λ u k. rw (sym kind_is ∙ e))
 
-    pub spread_reached : {s₃ : List ℕ} {directives : Range} → row.kind ≡ spread → directives ≡ fragment_directives image row.target → Steps image (reach_range image directives) s₂ s₃
+    pub spread_reached : {s₃ : List ℕ} {directives : Range} → spreads ≡ true → directives ≡ fragment_directives image row.target → Steps image (reach_range image directives) s₂ s₃
         → Steps image (reach_selection image r) s s₃
     unfolding reach_selection
     spread_reached {directives = directives} e d t =
         let same : directives ≡ fragment_directives image (selection_target image r) = d ∙ ap (λ (x : Selection). fragment_directives image x.target) read in
-        steps_as (steps_then own (range_at_lem directives (fragment_directives image (selection_target image r)) t same)) (λ u k. rw (eq-eqb _ _ (sym kind_is ∙ e)))
+        steps_as (steps_then own (range_at_lem directives (fragment_directives image (selection_target image r)) t same)) (λ u k. rw (sym kind_is ∙ e))
 
   -- ---- a set
 
@@ -278,24 +280,21 @@ module _ (image : List ℕ) where
 
   -- ---- a value
 
-  module _ {s s' : List ℕ} (defined : Range) (r : ℕ) {kind : ℕ} (read : kind ≡ value_kind image r) where
-    pub variable_used : {name k : ℕ} → kind ≡ variable → name ≡ value_atom image r → k ≡ find_name image defined name → Steps image (mark_variable image k) s s' → Steps image (use_value image defined r) s s'
+  module _ {s s' : List ℕ} (defined : Range) (r : ℕ) {is : Bool} (read : is ≡ eqb (value_kind image r) variable) where
+    pub variable_used : {name k : ℕ} → is ≡ true → name ≡ value_atom image r → k ≡ find_name image defined name → Steps image (mark_variable image k) s s' → Steps image (use_value image defined r) s s'
     unfolding use_value
     variable_used {name} {k} e named found p =
         let same : k ≡ find_name image defined (value_atom image r) = found ∙ ap (find_name image defined) named in
-        steps_as p (λ u h. rw (eq-eqb _ _ (sym read ∙ e), same))
+        steps_as p (λ u h. rw (sym read ∙ e, same))
 
-    pub members_used : {members : Range} → (kind ≡ variable → ⊥) → list ≤ kind → members ≡ value_members image r → Steps image (reach_range image members) s s' → Steps image (use_value image defined r) s s'
+    pub members_used : {deep : Bool} {members : Range} → is ≡ false → deep ≡ leb list (value_kind image r) → deep ≡ true → members ≡ value_members image r → Steps image (reach_range image members) s s'
+        → Steps image (use_value image defined r) s s'
     unfolding use_value
-    members_used {members} n h m p =
-        let deep : list ≤ value_kind image r = rw (← read) h in
-        steps_as (range_at_lem members (value_members image r) p m) (λ u k. rw (ne_eqb _ _ (λ e. n (read ∙ e)), le-leb _ _ deep))
+    members_used {members = members} n d h m p = steps_as (range_at_lem members (value_members image r) p m) (λ u k. rw (sym read ∙ n, sym d ∙ h))
 
-  pub nothing_used : {s : List ℕ} (defined : Range) (r : ℕ) {kind : ℕ} → kind ≡ value_kind image r → (kind ≡ variable → ⊥) → kind < list → Steps image (use_value image defined r) s s
+  pub nothing_used : {s : List ℕ} (defined : Range) (r : ℕ) {is deep : Bool} → is ≡ eqb (value_kind image r) variable → is ≡ false → deep ≡ leb list (value_kind image r) → deep ≡ false → Steps image (use_value image defined r) s s
   unfolding use_value
-  nothing_used defined r {kind} read n h =
-      let flat : value_kind image r < list = rw (← read) h in
-      steps_idle (λ u k. rw (ne_eqb _ _ (λ e. n (read ∙ e)), lt-leb _ _ flat))
+  nothing_used defined r read n d h = steps_idle (λ u k. rw (sym read ∙ n, sym d ∙ h))
 
   -- ---- the pass
 

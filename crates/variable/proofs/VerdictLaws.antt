@@ -7,21 +7,21 @@ use Prim.Native.Nat.{ℕ, suc, ◌≤◌, ◌<◌, max}
 use native.Mathlib.Omega.{arith}
 use lib.Dec.{eqb, ltb}
 use lib.ListN.{length, get_or}
-use borrow.Author.Tests.{le-leb, lt-leb, lt-ltb, le-ltb, eq-eqb, ne_eqb}
+use borrow.Author.Tests.{le-leb, lt-leb, le-ltb}
 use Rattle.lists.specs.First.{expect, ◌▷◌}
-use Rattle.lists.specs.Every.{position}
-use Rattle.lists.proofs.EveryLaws.{position_none}
 use Rattle.lists.proofs.Parts.{outside_none, outside_trans, outside_wider}
 use Rattle.tables.specs.declared.Range.{Range}
 use Rattle.tables.specs.Layout.{arguments}
 use Rattle.tables.specs.Image.{count_at, row_in}
 use Rattle.tables.specs.Columns.{variable, operation_variables, value_kind, value_atom}
 use Rattle.reach.specs.Reach.{walk_words}
-use Rattle.variable.specs.Definitions.{find_name, usage_allowed, first_output, first_repeated}
+use Rattle.variable.specs.Definitions.{find_name, first_output, first_repeated}
 use Rattle.variable.specs.Uses.{furthest, uses_of, mark_variables, first_unused, argument_allowed, allowed_below, first_misused, end_in, mark_in, uses_words, Keeps, Steps, Reached}
-use Rattle.variable.specs.Verdict.{Shown, usage_shows, uses_fault, defined_fault, Judged}
-use Rattle.variable.specs.declared.rules.Usage.{Usage}
+use Rattle.variable.specs.Verdict.{Shown, Usage, usage_shows, uses_fault, defined_fault, Judged}
 use Rattle.variable.specs.Names.{Named, Names, Searches}
+use Rattle.lists.specs.Every.{found}
+use Rattle.std.specs.declared.option.Option.TheVariants.{Some, None}
+use Rattle.lists.proofs.EveryLaws.{found_nowhere, some_found, none_found}
 use Rattle.variable.proofs.NameLaws.{named_kept}
 use Rattle.variable.proofs.UseLaws.{end_kept, mark_kept}
 
@@ -37,55 +37,30 @@ end_begins ends = refl
 module _ (image : List ℕ) where
   -- ---- an argument
 
-  module _ (defined : Range) (a : ℕ) {kind : ℕ} (read : kind ≡ value_kind image a) where
-    pub no_variable : (kind ≡ variable → ⊥) → true ≡ argument_allowed image defined a
-    unfolding argument_allowed
-    no_variable n = rw (ne_eqb _ _ (λ e. n (read ∙ e)))
-
-    module _ {name k : ℕ} (e : kind ≡ variable) (named : name ≡ value_atom image a) (found : k ≡ find_name image defined name) where
-      place : k ≡ find_name image defined (value_atom image a)
-      place = found ∙ ap (find_name image defined) named
-
-      pub undefined_variable : defined.count ≤ k → true ≡ argument_allowed image defined a
-      unfolding argument_allowed
-      undefined_variable past = rw (eq-eqb _ _ (sym read ∙ e), ← place, le-ltb _ _ past)
-
-      pub defined_variable : {row : ℕ} {b : Bool} → k < defined.count → row ≡ row_in defined k → b ≡ usage_allowed image row a → b ≡ argument_allowed image defined a
-      unfolding argument_allowed
-      defined_variable less row_is answer = rw (eq-eqb _ _ (sym read ∙ e), ← place, lt-ltb _ _ less, ← row_is) answer
-
   module _ (defined : Range) (a end : ℕ) where
-    pub asked : {b : Bool} → a < end → b ≡ argument_allowed image defined a → b ≡ allowed_below image defined a end
-    unfolding allowed_below
-    asked less e = rw (lt-ltb _ _ less) e
-
     pub asked_of : {b v : Bool} (ends : ℕ → ℕ) → b ≡ allowed_below image defined a end → end ≡ furthest ends (suc a) → b ≡ v → allowed_below image defined a (furthest ends (suc a)) ≡ v
     asked_of ends e next v = ap (allowed_below image defined a) (sym next) ∙ sym e ∙ v
-
-    pub not_asked : end ≤ a → true ≡ allowed_below image defined a end
-    unfolding allowed_below
-    not_asked past = rw (le-ltb _ _ past)
 
   -- ---- 12 and 13
 
   module _ (defined : Range) (end mark : ℕ → ℕ) where
-    pub unused_found : {k row : ℕ} → k ≡ first_unused image defined mark → k < defined.count → row ≡ row_in defined k → some (record { kind = 12; a = row }) ≡ uses_fault image defined end mark
+    pub unused_found : {k row : ℕ} → Some k ≡ found defined.count (first_unused image defined mark) → row ≡ row_in defined k → some (record { kind = 12; a = row }) ≡ uses_fault image defined end mark
     unfolding uses_fault expect ◌▷◌
-    unused_found found less row_is = rw (← found, lt-leb _ _ less, row_is)
+    unused_found {k} e row_is = let at = some_found e in rw (lt-leb _ _ at.1, at.0, row_is)
 
-    module _ {k : ℕ} (found : k ≡ first_unused image defined mark) (past : defined.count ≤ k) where
-      pub misused_found : {a : ℕ} → a ≡ first_misused image defined end → a < count_at image arguments → some (record { kind = 13; a = a }) ≡ uses_fault image defined end mark
+    module _ (used : None ≡ found defined.count (first_unused image defined mark)) where
+      pub misused_found : {a : ℕ} → Some a ≡ found (count_at image arguments) (first_misused image defined end) → some (record { kind = 13; a = a }) ≡ uses_fault image defined end mark
       unfolding uses_fault expect ◌▷◌
-      misused_found at less = rw (← found, le-leb _ _ past, ← at, lt-leb _ _ less)
+      misused_found {a} e = let at = some_found e in rw (le-leb _ _ (none_found used), lt-leb _ _ at.1, at.0)
 
-      pub uses_right : {a : ℕ} → a ≡ first_misused image defined end → count_at image arguments ≤ a → none ≡ uses_fault image defined end mark
+      pub uses_right : None ≡ found (count_at image arguments) (first_misused image defined end) → none ≡ uses_fault image defined end mark
       unfolding uses_fault expect ◌▷◌
-      uses_right at right = rw (← found, le-leb _ _ past, ← at, le-leb _ _ right)
+      uses_right allowed = rw (le-leb defined.count (first_unused image defined mark) (none_found used), le-leb _ _ (none_found allowed))
 
     -- without variables there is nothing to find
     no_uses : defined.count ≡ 0 → none ≡ uses_fault image defined end mark
     unfolding first_misused allowed_below argument_allowed
-    no_uses empty = uses_right refl (omega arith) refl (omega (arith, all))
+    no_uses empty = uses_right (sym (rw (le-ltb (first_unused image defined mark) defined.count (omega arith)))) (found_nowhere (count_at image arguments) (λ a. not (allowed_below image defined a (furthest end (suc a)))) passed)
       where
         pass : (b : Bool) → cond b true true ≡ true
         pass true = refl
@@ -94,8 +69,8 @@ module _ (image : List ℕ) where
         fine : (a : ℕ) → argument_allowed image defined a ≡ true
         fine a = rw (le-ltb (find_name image defined (value_atom image a)) defined.count (omega arith)) (pass (eqb (value_kind image a) variable))
 
-        all : position (count_at image arguments) (λ a. not (allowed_below image defined a (furthest end (suc a)))) ≡ count_at image arguments
-        all = position_none (count_at image arguments) (λ a. not (allowed_below image defined a (furthest end (suc a)))) (λ a l. rw (fine a, pass (ltb a (furthest end (suc a)))))
+        passed : (a : ℕ) → a < count_at image arguments → not (allowed_below image defined a (furthest end (suc a))) ≡ false
+        passed a l = rw (fine a, pass (ltb a (furthest end (suc a))))
 
   -- ---- 10 to 13
 
@@ -111,18 +86,18 @@ module _ (image : List ℕ) where
     no_variables empty =
         rw (le-leb defined.count (first_output image defined) (omega arith), le-leb defined.count (first_repeated image defined) (omega arith)) (no_uses defined ends_of marks_of empty)
 
-    pub output_found : {k row : ℕ} → k ≡ first_output image defined → k < defined.count → row ≡ row_in defined k → some (record { kind = 10; a = row }) ≡ defined_fault image defined i
+    pub output_found : {k row : ℕ} → Some k ≡ found defined.count (first_output image defined) → row ≡ row_in defined k → some (record { kind = 10; a = row }) ≡ defined_fault image defined i
     unfolding defined_fault expect ◌▷◌
-    output_found found less row_is = rw (← found, lt-leb _ _ less, row_is)
+    output_found {k} e row_is = let at = some_found e in rw (lt-leb _ _ at.1, at.0, row_is)
 
-    module _ {j : ℕ} (fine : j ≡ first_output image defined) (past : defined.count ≤ j) where
-      pub repeated_found : {k row : ℕ} → k ≡ first_repeated image defined → k < defined.count → row ≡ row_in defined k → some (record { kind = 11; a = row }) ≡ defined_fault image defined i
+    module _ (fine : None ≡ found defined.count (first_output image defined)) where
+      pub repeated_found : {k row : ℕ} → Some k ≡ found defined.count (first_repeated image defined) → row ≡ row_in defined k → some (record { kind = 11; a = row }) ≡ defined_fault image defined i
       unfolding defined_fault expect ◌▷◌
-      repeated_found found less row_is = rw (← fine, le-leb _ _ past, ← found, lt-leb _ _ less, row_is)
+      repeated_found {k} e row_is = let at = some_found e in rw (le-leb _ _ (none_found fine), lt-leb _ _ at.1, at.0, row_is)
 
-      uses_shown : {k : ℕ} {o : Option Shown} → k ≡ first_repeated image defined → defined.count ≤ k → o ≡ uses_fault image defined ends_of marks_of → o ≡ defined_fault image defined i
+      uses_shown : {o : Option Shown} → None ≡ found defined.count (first_repeated image defined) → o ≡ uses_fault image defined ends_of marks_of → o ≡ defined_fault image defined i
       unfolding defined_fault expect ◌▷◌
-      uses_shown found distinct e = rw (← fine, le-leb _ _ past, ← found, le-leb _ _ distinct) e
+      uses_shown distinct e = rw (le-leb defined.count (first_output image defined) (none_found fine), le-leb _ _ (none_found distinct)) e
 
       -- what the words say of the uses is what the operation uses
       words_shown : {s : List ℕ} {o : Option Shown} → Keeps image s (uses_of image defined i) → o ≡ uses_fault image defined (end_in image s) (mark_in image s) → o ≡ uses_fault image defined ends_of marks_of
@@ -132,14 +107,14 @@ module _ (image : List ℕ) where
           rw (← ends, ← marks) e
 
       -- the names can be searched, arguments are reached, variables marked, and then 12 and 13 are asked
-      pub uses_judged : {k : ℕ} {s s₁ s₂ : List ℕ} {o : Option Shown} → Named image defined s → (Named image defined s → k ≡ first_repeated image defined) → defined.count ≤ k
+      pub uses_judged : {s s₁ s₂ : List ℕ} {o : Option Shown} → Named image defined s → (Named image defined s → None ≡ found defined.count (first_repeated image defined))
           → Reached image i s s₁ → Searches image defined s₁ s₂ (Steps image (mark_variables image defined) s₁ s₂)
           → (Named image defined s₂ → o ≡ uses_fault image defined (end_in image s₂) (mark_in image s₂)) → uses_words image ≤ length s → o ≡ defined_fault image defined i
       unfolding uses_of
-      uses_judged names found distinct reached marked e room =
+      uses_judged names distinct reached marked e room =
           let names₁ = named_kept image defined 0 reached.frame (omega arith) names in
           let names₂ = named_kept image defined (walk_words image) marked.frame (omega arith) names₁ in
-          uses_shown (found names) distinct (words_shown ((marked.says names₁).keeps _ (reached.keeps room)) (e names₂))
+          uses_shown (distinct names) (words_shown ((marked.says names₁).keeps _ (reached.keeps room)) (e names₂))
 
   -- ---- the whole answer
 

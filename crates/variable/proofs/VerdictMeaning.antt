@@ -59,10 +59,6 @@ bool_not : (b : Bool) → not b ≡ true → b ≡ false
 bool_not true e = absurd (false≢true e)
 bool_not false e = refl
 
-bool_cases : (b : Bool) → (b ≡ true) ⊎ (b ≡ false)
-bool_cases true = inl refl
-bool_cases false = inr refl
-
 module _ (image : List ℕ) (good : Good image) (i : ℕ) (known : i < count_at image operations) where
   abbrev own : Range
   own = operation_variables image i

@@ -1,11 +1,12 @@
 -- Kinds 10 and 11 of one operation, and whether a variable may stand at an argument (kind 13), as the code decides them: by rows,
 -- for every image. What they mean stands in specs/Rules. Assumes nothing.
-use Rattle.std.specs.Prelude.{ℕ, zero, suc, Bool, true, false, cond, not, ◌&&◌, ◌||◌, List, eqb, ltb}
+use Rattle.std.specs.Prelude.{◌≡◌, ℕ, zero, suc, Bool, true, false, cond, not, ◌&&◌, ◌||◌, List, eqb, ltb}
 use Rattle.lists.specs.Every.{position, find}
 use Rattle.tables.specs.declared.Range.{Range}
 use Rattle.tables.specs.Image.{row_in}
-use Rattle.tables.specs.Columns.{type_kind, reference_kind, reference_child, is_list_reference, is_composite, innermost, argument_type, argument_default, variable_name, variable_type, variable_default}
+use Rattle.tables.specs.Columns.{type_kind, reference_kind, reference_child, reference_word, is_list_reference, is_composite, innermost, argument_type, argument_default, variable_name, variable_type, variable_default}
 use Rattle.variable.specs.Types.{is_non_null}
+use Rattle.tables.specs.declared.columns.ReferenceKind.{ReferenceKind}
 
 module _ (image : List ℕ) where
   -- the name of the variable that stands k rows into a range
@@ -30,6 +31,11 @@ module _ (image : List ℕ) where
 
   unfoldable pub first_repeated : Range → ℕ
   first_repeated variables = position variables.count (is_repeated variables)
+
+-- a kind that a word is read as says the same of lists and of null
+pub record ReadsAs (word : ℕ) (kind : ReferenceKind) : Type 0 where
+  pub list : is_list_reference (reference_word kind) ≡ is_list_reference word
+  pub non_null : is_non_null (reference_word kind) ≡ is_non_null word
 
 -- 13, at one level: both are lists or neither, and a non-null place wants a non-null variable unless its non-null is dropped
 unfoldable pub alike : (variable place : ℕ) → Bool

@@ -3,5 +3,6 @@ pub mod Types
 pub mod Definitions
 pub mod Uses
 pub mod Names
+pub mod Tallies
 pub mod Verdict
 pub mod Rules

@@ -10,18 +10,30 @@ use Rattle.tables.specs.Image.{count_at, row_in}
 use Rattle.tables.specs.Columns.{operation_variables}
 use Rattle.variable.specs.Definitions.{first_output, first_repeated}
 use Rattle.variable.specs.Uses.{uses_of, first_unused, first_misused, uses_words}
-use Rattle.variable.specs.declared.rules.Usage.{Usage}
-use Rattle.variable.specs.declared.rules.Usage.TheVariants.{Good, Wrong}
+use Rattle.std.specs.declared.result.Result.{Result}
+use Rattle.std.specs.declared.result.Result.TheVariants.{Ok, Err}
+use Rattle.variable.specs.declared.rules.VariableError.{VariableError}
+use Rattle.variable.specs.declared.rules.VariableError.TheVariants.{Output, Repeated, Unused, Misused}
 
 -- what a reply shows of an operation's variables: a kind, and the row that is its number a
 pub record Shown : Type 0 where
   pub kind : ℕ
   pub a : ℕ
 
--- the answer, by its number
+-- an error, by its number
+abbrev pub error_shows : VariableError → Shown
+error_shows (Output variable) = record { kind = 10; a = variable }
+error_shows (Repeated variable) = record { kind = 11; a = variable }
+error_shows (Unused variable) = record { kind = 12; a = variable }
+error_shows (Misused argument) = record { kind = 13; a = argument }
+
+-- the answer
+abbrev pub Usage : Type 0
+Usage = Result (Unit {0}) VariableError
+
 abbrev pub usage_shows : Usage → Option Shown
-usage_shows Good = none
-usage_shows (Wrong kind a) = some (record { kind = kind; a = a })
+usage_shows (Ok _) = none
+usage_shows (Err error) = some (error_shows error)
 
 module _ (image : List ℕ) where
   -- a search that ended before the count found a row

@@ -1,65 +1,65 @@
 // Whether a variable may stand at an argument (kind 13): IsVariableUsageAllowed and AreTypesCompatible of the specification, on
 // reference rows. Each contract is a definition of specs/Definitions, for every image.
-ghost use Rattle.std.specs.Prelude.{◌≡◌};
+ghost use Rattle.std.specs.Prelude.{◌≡◌, not, ◌&&◌};
+ghost use Rattle.tables.specs.Columns.{reference_kind, reference_word, is_list_reference};
 ghost use Rattle.variable.specs.Types.{is_non_null};
-ghost use Rattle.variable.specs.Definitions.{alike, agrees_at, compatible, has_default, usage_allowed};
+ghost use Rattle.variable.specs.Definitions.{ReadsAs, agrees_at, compatible, has_default, usage_allowed};
 
 use tables::columns::{
-    argument_default, argument_type, reference_child, reference_kind, variable_default,
-    variable_type,
+    ReferenceKind, argument_default, argument_type, reference_child, reference_kind,
+    reference_kind_of, variable_default, variable_type,
 };
 
-// Kinds of references: 0 named, 1 non-null named, 2 list, 3 non-null list.
-fn is_non_null(kind: u32) -> bool
-    ensures { result ≡ is_non_null kind }
+// The kind of a reference. A word that is no kind counts as a list's.
+#[tactic(auto, unfolding(crate::specs::Types::is_non_null))]
+fn kind_of(image: &[u32], reference: u32) -> ReferenceKind
+    ensures { ReadsAs (reference_kind image.now reference) result }
 {
-    if kind == 1 {
-        return true;
-    }
-    kind == 3
+    reference_kind_of(reference_kind(image, reference)).unwrap_or(ReferenceKind::List)
 }
 
-// Whether both are lists, or neither.
-fn are_alike(variable: u32, place: u32) -> bool
-    ensures { result ≡ alike variable place }
+fn is_list(kind: ReferenceKind) -> bool
+    ensures { result ≡ is_list_reference (reference_word kind) }
 {
-    if 2 <= variable {
-        return 2 <= place;
-    }
-    place < 2
+    matches!(kind, ReferenceKind::List | ReferenceKind::NonNullList)
+}
+
+#[tactic(auto, unfolding(crate::specs::Types::is_non_null))]
+fn is_non_null(kind: ReferenceKind) -> bool
+    ensures { result ≡ is_non_null (reference_word kind) }
+{
+    matches!(
+        kind,
+        ReferenceKind::NonNullNamed | ReferenceKind::NonNullList
+    )
+}
+
+// Whether null may stand at the variable, and not at the place.
+fn is_place_stricter(variable: ReferenceKind, place: ReferenceKind) -> bool
+    ensures { result ≡ (is_non_null (reference_word place) && not (is_non_null (reference_word variable))) }
+{
+    is_non_null(place) && !is_non_null(variable)
 }
 
 // Whether a reference of one kind may stand at a place of another, as far as the kinds say. A dropped non-null does not count.
-fn do_kinds_agree(variable: u32, place: u32, dropped: bool) -> bool
-    ensures { result ≡ agrees_at variable place dropped }
+#[tactic(auto, unfolding(crate::specs::Definitions::agrees_at, crate::specs::Definitions::alike))]
+fn do_kinds_agree(variable: ReferenceKind, place: ReferenceKind, dropped: bool) -> bool
+    ensures { result ≡ agrees_at (reference_word variable) (reference_word place) dropped }
 {
-    if are_alike(variable, place) {
-        if dropped {
-            return true;
-        }
-        if is_non_null(place) {
-            return is_non_null(variable);
-        }
-        return true;
-    }
-    false
+    is_list(variable) == is_list(place) && (dropped || !is_place_stricter(variable, place))
 }
 
-// AreTypesCompatible; `dropped` takes the place's outer non-null away. The variable's row falls.
+// AreTypesCompatible; `dropped` takes the place's outer non-null away. The loop follows children, and the variable's row falls.
 pub fn are_types_compatible(image: &[u32], variable: u32, place: u32, dropped: bool) -> bool
     ensures { result ≡ compatible image.now variable place dropped }
 {
     let mut ours = variable;
     let mut theirs = place;
     let mut free = dropped;
-    while do_kinds_agree(
-        reference_kind(image, ours),
-        reference_kind(image, theirs),
-        free,
-    ) {
+    while do_kinds_agree(kind_of(image, ours), kind_of(image, theirs), free) {
         let below = reference_child(image, ours);
         let across = reference_child(image, theirs);
-        if reference_kind(image, ours) < 2 {
+        if !is_list(kind_of(image, ours)) {
             return below == across;
         }
         if ours <= below {
@@ -76,10 +76,7 @@ pub fn are_types_compatible(image: &[u32], variable: u32, place: u32, dropped: b
 fn has_default(image: &[u32], variable: u32, argument: u32) -> bool
     ensures { result ≡ has_default image.now variable argument }
 {
-    if variable_default(image, variable) == 0 {
-        return argument_default(image, argument) != 0;
-    }
-    true
+    variable_default(image, variable) != 0 || argument_default(image, argument) != 0
 }
 
 // IsVariableUsageAllowed, of a variable row at an argument row.
@@ -88,14 +85,7 @@ pub fn is_variable_usage_allowed(image: &[u32], variable: u32, argument: u32) ->
 {
     let ours = variable_type(image, variable);
     let theirs = argument_type(image, argument);
-    if is_non_null(reference_kind(image, theirs)) {
-        if is_non_null(reference_kind(image, ours)) {
-            return are_types_compatible(image, ours, theirs, false);
-        }
-        if has_default(image, variable, argument) {
-            return are_types_compatible(image, ours, theirs, true);
-        }
-        return false;
-    }
-    are_types_compatible(image, ours, theirs, false)
+    let dropped = is_place_stricter(kind_of(image, ours), kind_of(image, theirs));
+    (!dropped || has_default(image, variable, argument))
+        && are_types_compatible(image, ours, theirs, dropped)
 }

@@ -1,16 +1,23 @@
--- `rows::check_claimed` meets its contract: a law for each `return`. Assumes nothing.
-use native.Mathlib.Omega.{arith}
-use Rattle.rows.proofs.RowPass.{sets_left, selections_left, values_left, nothing_left}
+-- `rows::check_claimed` meets its contract: the first table with rows left over is shown. Assumes nothing.
+use mathlib.Core.Path.{◌∙◌}
+use Rattle.lists.specs.First.{◌▷◌}
+use Rattle.rows.specs.RowFault.{unclaimed_fault}
+use Rattle.rows.proofs.RowPass.{passed_on}
 use Rattle.rows.proofs.check_claimed.Goals as goal
 
-pub returns-then-sets-count : goal.returns-then-sets-count
-returns-then-sets-count c = sets_left _ _ _ (omega arith) c.count-then-sets-count.ensures
+pub returns-in_err-check_left_over : goal.returns-in_err-check_left_over
+unfolding unclaimed_fault ◌▷◌
+returns-in_err-check_left_over c =
+    rw (← c.from.ensures) (passed_on _ _ c.from_residual.ensures.1 ∙ rw (← c.in_err-check_left_over.ensures))
 
-pub returns-then-claimed_selections-count : goal.returns-then-claimed_selections-count
-returns-then-claimed_selections-count c = selections_left _ _ _ (omega arith) (omega arith) c.count-then-claimed_selections-count.ensures
-
-pub returns-then-values-count : goal.returns-then-values-count
-returns-then-values-count c = values_left _ _ _ (omega arith) (omega arith) (omega arith) c.count-then-values-count.ensures
+pub returns-in_err-check_left_over-2 : goal.returns-in_err-check_left_over-2
+unfolding unclaimed_fault ◌▷◌
+returns-in_err-check_left_over-2 c =
+    rw (← c.from.ensures, ← c.in_ok-check_left_over.ensures, ← c.count.ensures, ← c.set_start.ensures)
+    (passed_on _ _ c.from_residual-in_err-check_left_over-2.ensures.1 ∙ rw (← c.in_err-check_left_over-2.ensures))
 
 pub returns : goal.returns
-returns c = nothing_left _ _ _ (omega arith) (omega arith) (omega arith)
+unfolding unclaimed_fault ◌▷◌
+returns c =
+    rw (← c.from.ensures, ← c.in_ok-check_left_over.ensures, ← c.count.ensures, ← c.set_start.ensures, ← c.in_ok-check_left_over-2.ensures, ← c.from-2.ensures)
+    c.check_left_over-3.ensures

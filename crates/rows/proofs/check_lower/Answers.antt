@@ -1,24 +1,18 @@
--- `rows::check_lower` meets its contract. The loop's invariant: no row of a table passed breaks its rule. Assumes nothing.
-use mathlib.Core.Path.{refl}
+-- `rows::check_lower` meets its contract. Assumes nothing.
+use mathlib.Core.Path.{refl, sym, ◌∙◌}
 use native.Mathlib.Omega.{arith}
 use Rattle.lists.specs.First.{first_fault}
-use Rattle.lists.proofs.FirstLaws.{finishes}
-use Rattle.rows.proofs.RowPass.{passes, breaks_among}
+use Rattle.lists.proofs.FirstLaws.{goes_on, stays}
+use Rattle.rows.proofs.RowPass.{passed_on}
 use Rattle.rows.proofs.check_lower.Goals as goal
 
 pub loop-table-init : goal.loop-table-init
 unfolding first_fault
-loop-table-init c = (omega arith, refl)
+loop-table-init c = refl
 
-pub first_bad-row-requires : goal.first_bad-row-requires
-first_bad-row-requires c =
-    record { known = omega arith; no_selections = λ e. omega arith; no_values = λ e. omega arith }
-
-pub returns-then-row-count : goal.returns-then-row-count
-returns-then-row-count c = breaks_among _ c.loop-table.table c.first_bad-row.ensures 5 (cc) (omega arith) (omega arith)
+pub returns-in_err-check_plain : goal.returns-in_err-check_plain
+returns-in_err-check_plain c =
+    passed_on _ _ c.from_residual.ensures.1 ∙ sym (stays _ c.loop-table.table 5 _ c.loop-table.invariant (omega arith) (sym c.in_err-check_plain.ensures))
 
 pub loop-table-preserved : goal.loop-table-preserved
-loop-table-preserved c = (omega arith, passes _ c.loop-table.table c.first_bad-row.ensures (cc) (omega arith))
-
-pub returns : goal.returns
-returns c = finishes _ c.loop-table.table 5 (cc) (omega arith)
+loop-table-preserved c = goes_on _ c.loop-table.table c.loop-table.invariant (sym c.in_ok-check_plain.ensures)

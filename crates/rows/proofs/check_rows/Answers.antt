@@ -1,14 +1,15 @@
 -- `rows::check_rows` meets its contract: a wrong header refuses the image, else its rows decide. Assumes nothing.
-use mathlib.Core.Path.{sym}
-use Rattle.rows.proofs.RowPass.{header_refused, rows_decide, none_yet}
-use Rattle.tables.proofs.Faults.{shows_none}
+use mathlib.Core.Path.{◌∙◌}
+use Rattle.lists.specs.First.{◌▷◌}
+use Rattle.rows.specs.RowFault.{image_fault}
+use Rattle.rows.specs.declared.BadImage.TheVariants.{Header}
+use Rattle.rows.proofs.RowPass.{passed_on}
 use Rattle.rows.proofs.check_rows.Goals as goal
 
-pub check_tables-requires : goal.check_tables-requires
-check_tables-requires c = none_yet _ (sym (shows_none {r = c.check_header-header.result} c.in-Good.is c.check_header-header.ensures))
+pub returns-in_err-check_header : goal.returns-in_err-check_header
+unfolding image_fault ◌▷◌
+returns-in_err-check_header c = passed_on _ (Header _) c.from_residual.ensures.1 ∙ rw (← c.in_err-check_header.ensures)
 
-pub returns-in-Wrong : goal.returns-in-Wrong
-returns-in-Wrong c = header_refused _ c.check_header-header.ensures c.in-Wrong.is
-
-pub returns-in-Good : goal.returns-in-Good
-returns-in-Good c = rows_decide _ (sym (shows_none {r = c.check_header-header.result} c.in-Good.is c.check_header-header.ensures)) c.check_tables.ensures
+pub returns : goal.returns
+unfolding image_fault ◌▷◌
+returns c = rw (← c.in_ok-check_header.ensures) c.check_tables.ensures

@@ -1,21 +1,19 @@
--- `rows::check_tables` meets its contract: a law for each `return`. Assumes nothing.
+-- `rows::check_tables` meets its contract: the first table with a fault is shown, or what is left unclaimed. Assumes nothing.
+use mathlib.Core.Path.{sym, ◌∙◌}
 use native.Mathlib.Omega.{arith}
-use Rattle.rows.proofs.RowPass.{passed_good, good_tables, good_more, breaks, lower_breaks, leaves_all, shows_no_fault}
+use Rattle.lists.proofs.FirstLaws.{goes_on}
+use Rattle.rows.proofs.RowPass.{passed_good, passed_on, table_breaks, lower_breaks}
 use Rattle.rows.proofs.check_tables.Goals as goal
 
-pub returns-in_default : goal.returns-in_default
-returns-in_default c = lower_breaks _ 5 c.check_lower-lower.result (omega arith) c.in_default.not-Good c.check_lower-lower.ensures
+pub returns-in_err-check_lower : goal.returns-in_err-check_lower
+returns-in_err-check_lower c = passed_on _ _ c.from_residual.ensures.1 ∙ lower_breaks _ 5 (omega arith) c.in_err-check_lower.ensures
 
-pub check_selections-selections-requires : goal.check_selections-selections-requires
-check_selections-selections-requires c = passed_good _ 5 c.requires.header (shows_no_fault _ c.in-Good.is c.check_lower-lower.ensures)
+pub check_selections-requires : goal.check_selections-requires
+check_selections-requires c = passed_good _ 5 c.requires (sym c.in_ok-check_lower.ensures)
 
-pub returns-then-selections-count : goal.returns-then-selections-count
-returns-then-selections-count c =
-    let five = passed_good _ 5 c.requires.header (shows_no_fault _ c.in-Good.is c.check_lower-lower.ensures) in
-    breaks _ 5 c.check_selections-selections.ensures.at_first_bad (good_tables _ 5 five) (omega arith) (omega arith)
+pub returns-in_err-sets : goal.returns-in_err-sets
+returns-in_err-sets c =
+    passed_on _ _ c.from_residual-in_err-sets.ensures.1 ∙ table_breaks _ 5 (sym c.in_ok-check_lower.ensures) (omega arith) c.in_err-sets.ensures.shows
 
-pub check_upper-requires : goal.check_upper-requires
-check_upper-requires c =
-    let five = passed_good _ 5 c.requires.header (shows_no_fault _ c.in-Good.is c.check_lower-lower.ensures) in
-    let stands = c.check_selections-selections.ensures in
-    (good_more _ 5 five stands.at_first_bad (omega arith), leaves_all _ 5 _ stands (omega arith))
+pub check_upper-requires-clause-lower_good : goal.check_upper-requires-clause-lower_good
+check_upper-requires-clause-lower_good c = goes_on _ 5 (sym c.in_ok-check_lower.ensures) (sym c.in_ok-sets.ensures.shows)

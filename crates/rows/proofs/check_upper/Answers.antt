@@ -1,29 +1,28 @@
--- `rows::check_upper` meets its contract: a law for each `return`. Assumes nothing.
+-- `rows::check_upper` meets its contract: the first table with a fault is shown, or what is left unclaimed. Assumes nothing.
+use mathlib.Core.Path.{sym, ◌∙◌}
 use native.Mathlib.Omega.{arith}
-use mathlib.Core.Path.{◌∙◌}
-use Rattle.rows.proofs.RowPass.{good_tables, good_more, breaks, all_whole, leaves_all}
+use Rattle.lists.proofs.FirstLaws.{goes_on}
+use Rattle.rows.proofs.RowPass.{passed_on, table_breaks, all_whole}
 use Rattle.rows.proofs.check_upper.Goals as goal
 
-pub returns-then-argument-count : goal.returns-then-argument-count
-returns-then-argument-count c = breaks _ 6 c.first_bad-argument.ensures (good_tables _ 6 c.requires.0) (omega arith) (omega arith)
+pub returns-in_err-check_plain : goal.returns-in_err-check_plain
+returns-in_err-check_plain c =
+    passed_on _ _ c.from_residual.ensures.1 ∙ table_breaks _ 6 c.requires.lower_good (omega arith) c.in_err-check_plain.ensures
 
-pub returns-then-values-count : goal.returns-then-values-count
-returns-then-values-count c =
-    let six = c.requires.0 in
-    let seven = good_more _ 6 six c.first_bad-argument.ensures (omega arith) in
-    breaks _ 7 c.check_values-values.ensures.at_first_bad (good_tables _ 7 seven) (omega arith) (omega arith)
+pub returns-in_err-values : goal.returns-in_err-values
+returns-in_err-values c =
+    let seven = goes_on _ 6 c.requires.lower_good (sym c.in_ok-check_plain.ensures) in
+    passed_on _ _ c.from_residual-in_err-values.ensures.1 ∙ table_breaks _ 7 seven (omega arith) c.in_err-values.ensures.shows
 
-pub returns-then-variable-count : goal.returns-then-variable-count
-returns-then-variable-count c =
-    let six = c.requires.0 in
-    let seven = good_more _ 6 six c.first_bad-argument.ensures (omega arith) in
-    let eight = good_more _ 7 seven c.check_values-values.ensures.at_first_bad (omega arith) in
-    breaks _ 8 c.first_bad-variable.ensures (good_tables _ 8 eight) (omega arith) (omega arith)
+pub returns-in_err-check_plain-2 : goal.returns-in_err-check_plain-2
+returns-in_err-check_plain-2 c =
+    let seven = goes_on _ 6 c.requires.lower_good (sym c.in_ok-check_plain.ensures) in
+    let eight = goes_on _ 7 seven (sym c.in_ok-values.ensures.shows) in
+    passed_on _ _ c.from_residual-in_err-check_plain-2.ensures.1 ∙ table_breaks _ 8 eight (omega arith) c.in_err-check_plain-2.ensures
 
 pub returns : goal.returns
 returns c =
-    let six = c.requires.0 in
-    let seven = good_more _ 6 six c.first_bad-argument.ensures (omega arith) in
-    let eight = good_more _ 7 seven c.check_values-values.ensures.at_first_bad (omega arith) in
-    let nine = good_more _ 8 eight c.first_bad-variable.ensures (omega arith) in
-    c.check_claimed.ensures ∙ all_whole _ (good_tables _ 9 nine) c.requires.1 (leaves_all _ 7 _ c.check_values-values.ensures (omega arith))
+    let seven = goes_on _ 6 c.requires.lower_good (sym c.in_ok-check_plain.ensures) in
+    let eight = goes_on _ 7 seven (sym c.in_ok-values.ensures.shows) in
+    let nine = goes_on _ 8 eight (sym c.in_ok-check_plain-2.ensures) in
+    c.check_claimed.ensures ∙ all_whole _ nine c.requires.owned c.in_ok-values.ensures.leaves

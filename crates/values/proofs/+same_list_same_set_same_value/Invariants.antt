@@ -3,7 +3,7 @@
 -- The loops' invariants: the members passed are the same; the rows passed have their match on the right. Assumes nothing.
 use mathlib.Core.Path.{◌≡◌}
 use mathlib.Core.Bool.{true}
-use Prim.Native.Nat.{ℕ, ◌+◌, ◌-◌, ◌*◌, ◌<◌, ◌≤◌}
+use Prim.Native.Nat.{ℕ, ◌+◌, ◌*◌, ◌<◌}
 use Rattle.tables.specs.Image.{row_in}
 use Rattle.tables.specs.Keys.{key_of}
 use Rattle.values.specs.Same.{matched, same_value}
@@ -20,14 +20,8 @@ decreases-same_value l = 2 * l.level
 
 abbrev pub invariant-same_list-loop-i : goal.invariant-same_list-loop-i
 invariant-same_list-loop-i l =
-    (l.i ≤ l.rows) × ((k : ℕ) → k < l.i → same_value l.image l.level (row_in l.left k) (row_in l.right k) ≡ true)
-
-abbrev pub decreases-same_list-loop-i : goal.decreases-same_list-loop-i
-decreases-same_list-loop-i l = l.rows - l.i
+    (k : ℕ) → k < l.i → same_value l.image l.level (row_in l.left k) (row_in l.right k) ≡ true
 
 abbrev pub invariant-same_set-loop-i : goal.invariant-same_set-loop-i
 invariant-same_set-loop-i l =
-    (l.i ≤ l.rows) × ((k : ℕ) → k < l.i → matched (key_of l.image l.table) (same_value l.image l.level) l.right (row_in l.left k) ≡ true)
-
-abbrev pub decreases-same_set-loop-i : goal.decreases-same_set-loop-i
-decreases-same_set-loop-i l = l.rows - l.i
+    (k : ℕ) → k < l.i → matched (key_of l.image l.table) (same_value l.image l.level) l.right (row_in l.left k) ≡ true

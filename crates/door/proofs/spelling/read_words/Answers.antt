@@ -45,20 +45,19 @@ done : (bytes w₀ w : List ℕ) (i n : ℕ) → w ≡ write w₀ 0 (words_of by
 done bytes w₀ w i n e all = rw (e, all)
 
 pub loop-i-init : goal.loop-i-init
-loop-i-init c = (omega arith, refl, none_read _ _)
+loop-i-init c = (refl, none_read _ _)
 
 pub loop-i-preserved : goal.loop-i-preserved
 loop-i-preserved c = (
-  omega arith,
-  ap length c.put.ensures ∙ simp length-set c.loop-i.invariant.1,
-  turn _ _ _ _ c.loop-i.i _ c.loop-i.invariant.2 c.loop-i.invariant.1 c.word_from.ensures c.put.ensures,
+  ap length c.put.ensures ∙ simp length-set c.loop-i.invariant.0,
+  turn _ _ _ _ c.loop-i.i _ c.loop-i.invariant.1 c.loop-i.invariant.0 c.word_from.ensures c.put.ensures,
 )
 
 pub shape_of-words : goal.shape_of-words
-shape_of-words c = c.loop-i.invariant.1
+shape_of-words c = c.loop-i.invariant.0
 
 pub returns : goal.returns
 returns c =
     let l = c.loop-i in
     let all : l.i ≡ c.args.n = omega arith in
-    done _ _ _ _ _ l.invariant.2 all
+    done _ _ _ _ _ l.invariant.1 all

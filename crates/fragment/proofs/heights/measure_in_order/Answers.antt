@@ -1,65 +1,53 @@
 -- `heights::measure_in_order` meets its contract. The loop's invariant: the turns so far went well, and nothing but heights has changed.
 -- Assumes nothing.
-use Prim.Native.Nat.{◌*◌}
-use native.Mathlib.Nat.{le_refl}
-use native.Mathlib.Omega.{arith}
-use mathlib.Core.Path.{◌≡◌, refl, sym, subst, ◌∙◌}
-use mathlib.Core.Bool.{false≢true}
+use Rattle.std.proofs.Common.{◌≡◌, sym, subst, ◌∙◌, arith}
+use Rattle.std.proofs.Math.Nat.{le_refl}
+use Rattle.std.proofs.lemmas.Bool.{false≢true}
 use Rattle.lists.proofs.Parts.{outside_none, outside_trans}
 use Rattle.tables.specs.Image.{count_at}
 use Rattle.tables.specs.Layout.{sets}
-use Rattle.fragment.proofs.Cleared.{cleared_outside, all_cleared}
-use Rattle.fragment.proofs.Exact.{cleared_sound}
 use Rattle.fragment.proofs.Ordered.{Turned, none_turned, turn_outside, turn_again, all_turned, turns_kept, no_turn, last_turn, turn_passes, turn_fails}
 use Rattle.fragment.proofs.heights.measure_in_order.Goals as goal
 
 pub loop-placed-init : goal.loop-placed-init
-loop-placed-init c = (omega arith, outside_none _ _ _, λ good room sound. none_turned _ _ sound, no_turn _ _)
+loop-placed-init c = (outside_none _ _ _, λ good room sound. none_turned _ _ sound, no_turn _ _)
 
 pub loop-placed-preserved : goal.loop-placed-preserved
 loop-placed-preserved c =
     let l = c.loop-placed in
-    let n = c.count-known.ensures in
+    let n = c.count-placed-end.ensures in
     let turn = c.measure_in_turn.ensures in
-    let read = c.get-set.ensures in (
-      omega arith,
-      turn_outside _ _ n (omega arith) l.invariant.1 turn.0,
-      turn_again _ _ n (omega arith) l.invariant.1 turn.0 read turn.1 c.if-measure_in_turn.true l.invariant.2,
-      turn_passes _ _ n (omega arith) l.invariant.1 turn.0 read turn.1 c.if-measure_in_turn.true l.invariant.3,
+    let read = c.set_of-set.ensures in (
+      turn_outside _ _ (omega arith) l.invariant.0 turn.0,
+      turn_again _ _ (omega arith) l.invariant.0 turn.0 read turn.1 c.if-not-measure_in_turn.false l.invariant.1,
+      turn_passes _ _ (omega arith) l.invariant.0 turn.0 read turn.1 c.if-not-measure_in_turn.false l.invariant.2,
     )
 
-pub shape_of-s-else-measure_in_turn : goal.shape_of-s-else-measure_in_turn
-shape_of-s-else-measure_in_turn c = c.measure_in_turn.auto.s ∙ c.loop-placed.invariant.1.long ∙ (cleared_outside c.args.s.now _ c.clear.ensures refl).long
+pub shape_of-s-then-not-measure_in_turn : goal.shape_of-s-then-not-measure_in_turn
+shape_of-s-then-not-measure_in_turn c = c.measure_in_turn.auto.s ∙ c.loop-placed.invariant.0.long ∙ c.clear_heights.auto.s
 
-pub returns-else-measure_in_turn : goal.returns-else-measure_in_turn
-returns-else-measure_in_turn c =
+pub returns-then-not-measure_in_turn : goal.returns-then-not-measure_in_turn
+returns-then-not-measure_in_turn c =
     let l = c.loop-placed in
-    let n = c.count-known.ensures in
-    let a = c.args in
-    let size : 3 * c.count-known.result ≡ 3 * count_at a.image.now sets = omega arith in
+    let n = c.count-placed-end.ensures in
     let turn = c.measure_in_turn.ensures in
-    let read = c.get-set.ensures in
-    let before = cleared_outside a.s.now _ c.clear.ensures size in (
-      outside_trans before (turn_outside _ _ n (omega arith) l.invariant.1 turn.0),
-      sym (turn_fails _ _ n (omega arith) l.invariant.1 turn.0 read turn.1 c.if-measure_in_turn.false) ∙ turns_kept _ _ _ before _ (le_refl _),
+    let read = c.set_of-set.ensures in
+    let before = c.clear_heights.ensures.0 in (
+      outside_trans before (turn_outside _ _ (omega arith) l.invariant.0 turn.0),
+      sym (turn_fails _ _ (omega arith) l.invariant.0 turn.0 read turn.1 c.if-not-measure_in_turn.true) ∙ turns_kept _ _ _ before _ (le_refl _),
       λ e. absurd (false≢true e),
     )
 
 pub shape_of-s : goal.shape_of-s
-shape_of-s c = c.loop-placed.invariant.1.long ∙ (cleared_outside c.args.s.now _ c.clear.ensures refl).long
+shape_of-s c = c.loop-placed.invariant.0.long ∙ c.clear_heights.auto.s
 
 pub returns : goal.returns
 returns c =
     let l = c.loop-placed in
-    let n = c.count-known.ensures in
-    let a = c.args in
-    let size : 3 * c.count-known.result ≡ 3 * count_at a.image.now sets = omega arith in
-    let cleared = c.clear.ensures in
-    let before = cleared_outside a.s.now _ cleared size in
-    let last : l.placed ≡ count_at a.image.now sets = omega arith in (
-      outside_trans before l.invariant.1,
-      sym (last_turn _ _ last l.invariant.3) ∙ turns_kept _ _ _ before _ (le_refl _),
-      λ e good room.
-          let sound = cleared_sound _ _ (all_cleared a.s.now _ cleared size (omega arith)) in
-          all_turned good (subst (Turned a.image.now _ l.s) last (l.invariant.2 good (omega (arith, before.long)) sound)),
+    let n = c.count-placed-end.ensures in
+    let clean = c.clear_heights.ensures in
+    let last : l.placed ≡ count_at c.args.image.now sets = omega arith in (
+      outside_trans clean.0 l.invariant.0,
+      sym (last_turn _ _ last l.invariant.2) ∙ turns_kept _ _ _ clean.0 _ (le_refl _),
+      λ e good room. all_turned good (subst (Turned c.args.image.now _ l.s) last (l.invariant.1 good (omega (arith, clean.0.long)) (clean.1 (omega arith)))),
     )

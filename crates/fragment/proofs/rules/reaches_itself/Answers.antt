@@ -6,14 +6,15 @@ use Rattle.tables.specs.Columns.{fragment_set}
 use Rattle.fragment.specs.Rise.{place_at}
 use Rattle.fragment.proofs.Behind.{found_itself}
 use Rattle.fragment.proofs.Cycles.{above_rise}
+use Rattle.fragment.proofs.Rising.{front_place}
 use Rattle.fragment.proofs.rules.reaches_itself.Goals as goal
 
-pub returns-then-rise-place_at : goal.returns-then-rise-place_at
-returns-then-rise-place_at c =
+pub returns-then-rise-place_behind : goal.returns-then-rise-place_behind
+returns-then-rise-place_behind c =
     let a = c.args in
     let place = place_at a.image.now a.s.now in
-    let at : c.place_at.result ≡ place (fragment_set a.image.now a.fragment) = c.place_at.ensures ∙ ap place c.fragment_set-set.ensures in
-    (outside_none _ _ _, λ good room rises known. sym (above_rise good a.fragment known place a.rise rises (omega (arith, at, c.if-rise-place_at.true))))
+    let at : c.place_behind.result ≡ place (fragment_set a.image.now a.fragment) = front_place a.image.now a.s.now _ c.place_behind.ensures ∙ ap place c.fragment_set-set.ensures in
+    (outside_none _ _ _, λ good room rises known. sym (above_rise good a.fragment known place a.rise rises (omega (arith, at, c.if-rise-place_behind.true))))
 
 pub returns : goal.returns
 returns c =

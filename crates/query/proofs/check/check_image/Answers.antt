@@ -1,17 +1,14 @@
 -- `check::check_image` meets its contract: the rows decide, else the document. Assumes nothing.
-use mathlib.Core.Path.{ap}
-use Rattle.rows.specs.RowFault.{rows_show}
-use Rattle.query.proofs.Judges.{by_rows, fits_after, by_document}
+use mathlib.Core.Path.{refl}
+use Rattle.query.specs.declared.fault.Fault.TheVariants.{Image}
+use Rattle.query.proofs.Judges.{ended_by, by_rows, fits_after, by_document}
 use Rattle.query.proofs.check.check_image.Goals as goal
 
 pub check_document-requires : goal.check_document-requires
-check_document-requires c = fits_after c.args.s.now c.requires _ c.check_rows-rows.ensures c.in-Good.is
+check_document-requires c = fits_after c.args.s.now c.requires c.in_ok-check_rows.ensures refl
 
-pub returns-in-BadHeader : goal.returns-in-BadHeader
-returns-in-BadHeader c = by_rows _ c.requires c.check_rows-rows.result c.check_rows-rows.ensures _ (ap rows_show c.in-BadHeader.is) c.refusal.ensures
+pub returns-in_err-check_rows : goal.returns-in_err-check_rows
+returns-in_err-check_rows c = rw (ended_by 0 _ (Image _) c.from_residual.ensures.1) (by_rows _ c.requires c.in_err-check_rows.ensures _ refl)
 
-pub returns-in-BadRow : goal.returns-in-BadRow
-returns-in-BadRow c = by_rows _ c.requires c.check_rows-rows.result c.check_rows-rows.ensures _ (ap rows_show c.in-BadRow.is) c.refusal-in-BadRow.ensures
-
-pub returns-in-Good : goal.returns-in-Good
-returns-in-Good c = by_document _ c.requires _ c.check_rows-rows.ensures c.in-Good.is c.check_document.ensures
+pub returns : goal.returns
+returns c = by_document _ c.requires c.in_ok-check_rows.ensures refl c.check_document.ensures

@@ -1,6 +1,6 @@
 -- `needed::rows_in_all` meets its contract. The loop's invariant: the sum is that of the tables passed. Assumes nothing.
 use native.Mathlib.Omega.{arith}
-use mathlib.Core.Path.{◌≡◌, refl}
+use mathlib.Core.Path.{◌≡◌, refl, ◌∙◌}
 use mathlib.Core.List.{List}
 use Prim.Native.Nat.{ℕ, ◌+◌}
 use Rattle.tables.specs.Layout.{table_count}
@@ -19,10 +19,10 @@ all image sum t tables edition = rw (sum, t, tables, edition)
 
 pub loop-table-init : goal.loop-table-init
 unfolding total
-loop-table-init c = (omega arith, refl, omega arith)
+loop-table-init c = (refl, omega arith)
 
 pub loop-table-preserved : goal.loop-table-preserved
-loop-table-preserved c = (omega arith, more _ _ c.loop-table.invariant.1 c.count.ensures, omega arith)
+loop-table-preserved c = (more _ _ c.loop-table.invariant.0 (c.from-sum.ensures ∙ c.count.ensures), omega (arith, c.from-sum.ensures))
 
 pub returns : goal.returns
-returns c = (all _ c.loop-table.invariant.1 (omega arith) c.table_count-tables.ensures c.word.ensures, omega arith)
+returns c = (all _ c.loop-table.invariant.0 (omega arith) c.table_count-table-end.ensures c.word.ensures, omega arith)

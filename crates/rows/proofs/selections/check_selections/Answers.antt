@@ -1,6 +1,7 @@
--- `selections::check_selections` meets its contract. The loop's invariant: the rows of the sets passed are good, and the row at
--- hand is where the set at hand starts. Assumes nothing.
+-- `selections::check_selections` meets its contract. Assumes nothing.
+use mathlib.Core.Path.{◌∙◌}
 use native.Mathlib.Omega.{arith}
+use Rattle.rows.proofs.RowPass.{passed_on}
 use Rattle.rows.proofs.SelectionPass.{first_fits, begins, end_fits, enters_set, stopped, leaves_set, enters_none, finished}
 use Rattle.rows.proofs.selections.check_selections.Goals as goal
 
@@ -13,17 +14,18 @@ loop-set-init c = begins _ c.requires c.count.ensures c.count-2.ensures
 pub overflow_add-end : goal.overflow_add-end
 overflow_add-end c = omega (arith, end_fits _ c.requires (omega arith) c.set_selections-rows.ensures)
 
-pub check_selections_to-at-requires : goal.check_selections_to-at-requires
-check_selections_to-at-requires c = enters_set _ c.requires (omega arith) c.set_selections-rows.ensures c.loop-set.invariant
+pub check_selections_to-requires : goal.check_selections_to-requires
+check_selections_to-requires c = enters_set _ c.requires (omega arith) c.set_selections-rows.ensures c.loop-set.invariant
 
-pub returns-then-at-end : goal.returns-then-at-end
-returns-then-at-end c = stopped _ c.requires (omega arith) c.set_selections-rows.ensures c.check_selections_to-at.ensures c.if-at-end.true
+pub returns-in_err-next-clause-shows : goal.returns-in_err-next-clause-shows
+returns-in_err-next-clause-shows c =
+    passed_on _ _ c.from_residual.ensures.1 ∙ stopped _ c.requires (omega arith) c.set_selections-rows.ensures c.in_err-next.ensures
 
 pub loop-set-preserved : goal.loop-set-preserved
-loop-set-preserved c = leaves_set _ c.requires (omega arith) c.set_selections-rows.ensures c.check_selections_to-at.ensures (omega arith)
+loop-set-preserved c = leaves_set _ c.requires (omega arith) c.set_selections-rows.ensures c.in_ok-next.ensures
 
-pub check_selections_to-requires : goal.check_selections_to-requires
-check_selections_to-requires c = enters_none _ c.requires c.loop-set.invariant (omega arith) c.count-3.ensures
+pub check_selections_to-requires-2 : goal.check_selections_to-requires-2
+check_selections_to-requires-2 c = enters_none _ c.requires c.loop-set.invariant (omega arith) c.count-3.ensures
 
-pub returns : goal.returns
-returns c = finished _ c.check_selections_to.ensures c.count-3.ensures
+pub returns-clause-shows : goal.returns-clause-shows
+returns-clause-shows c = finished _ c.count-3.ensures _ c.check_selections_to-2.ensures

@@ -1,20 +1,15 @@
--- `selections::check_selections_to` meets its contract. The loop's invariant: what it takes for granted holds of the row at hand.
--- Assumes nothing.
+-- `selections::check_selections_to` meets its contract. Assumes nothing.
 use native.Mathlib.Omega.{arith}
-use Rattle.rows.proofs.SelectionPass.{number_fits, takes_row, stops_at, passes_all}
+use Rattle.rows.proofs.SelectionPass.{number_fits, takes_row, stops_at}
 use Rattle.rows.proofs.selections.check_selections_to.Goals as goal
 
-pub loop-row-init : goal.loop-row-init
-loop-row-init c = c.requires
+pub returns-then-not-is_selection_good : goal.returns-then-not-is_selection_good
+returns-then-not-is_selection_good c = stops_at _ _ _ _ _ c.loop-row.invariant c.loop-row-test.true c.selection_row-selection.ensures c.is_selection_good.ensures c.if-not-is_selection_good.true
 
-pub next_after-next-requires : goal.next_after-next-requires
-next_after-next-requires c = number_fits _ _ _ _ _ c.loop-row.invariant c.loop-row-test.true
+pub overflow_add-next : goal.overflow_add-next
+overflow_add-next c =
+    let more = takes_row _ _ _ _ _ c.loop-row.invariant c.loop-row-test.true c.selection_row-selection.ensures c.is_selection_good.ensures c.if-not-is_selection_good.false c.owned_by-next.ensures in
+    omega (arith, number_fits _ _ _ _ _ more)
 
 pub loop-row-preserved : goal.loop-row-preserved
-loop-row-preserved c = takes_row _ _ _ _ _ c.loop-row.invariant c.loop-row-test.true c.selection_row-selection.ensures c.is_selection_good.ensures c.if-is_selection_good.true c.next_after-next.ensures
-
-pub returns-else-is_selection_good : goal.returns-else-is_selection_good
-returns-else-is_selection_good c = stops_at _ _ _ _ _ c.loop-row.invariant c.loop-row-test.true c.selection_row-selection.ensures c.is_selection_good.ensures c.if-is_selection_good.false
-
-pub returns : goal.returns
-returns c = passes_all _ _ _ _ _ c.loop-row.invariant (omega arith)
+loop-row-preserved c = takes_row _ _ _ _ _ c.loop-row.invariant c.loop-row-test.true c.selection_row-selection.ensures c.is_selection_good.ensures c.if-not-is_selection_good.false c.owned_by-next.ensures

@@ -16,4 +16,4 @@ at_most image t {e = e} r n most edition =
     (rw (r, n, most, edition), omega arith)
 
 pub returns : goal.returns
-returns c = at_most _ _ c.least.ensures c.count.ensures c.most_rows.ensures c.word.ensures
+returns c = at_most _ _ c.min.ensures c.count.ensures c.most_rows.ensures c.word.ensures

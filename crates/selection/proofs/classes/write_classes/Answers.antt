@@ -5,4 +5,4 @@ use Rattle.selection.proofs.classes.write_classes.Goals as goal
 pub returns : goal.returns
 returns c =
     rw (← c.rows_at_most-rows.ensures.0, ← c.rows_at_most-types.ensures.0)
-    (classes_written _ _ c.write_names.ensures c.write_firsts.ensures c.write_pairs.ensures c.write_firsts-2.ensures)
+    (classes_written _ _ c.write_names.ensures (rw c.index_of-index.ensures at c.build_firsts.ensures) c.write_pairs.ensures (rw c.index_of-index.ensures at c.build_firsts-2.ensures))

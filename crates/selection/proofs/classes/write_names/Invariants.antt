@@ -1,11 +1,8 @@
 -- The loop of `classes::write_names`. Its invariant: the keys of the rows before this one are written. Assumes nothing.
-use Prim.Native.Nat.{◌*◌, ◌-◌, ◌≤◌}
+use Prim.Native.Nat.{◌*◌}
 use Rattle.tables.specs.Columns.{response_name}
 use Rattle.selection.specs.Classing.{Written}
 use Rattle.selection.proofs.classes.write_names.Given as goal
 
 abbrev pub invariant-loop-row : goal.invariant-loop-row
-invariant-loop-row l = (l.row ≤ l.rows) × Written (λ k. response_name l.image k) (3 * l.rows) l.row l.initial.s l.s
-
-abbrev pub decreases-loop-row : goal.decreases-loop-row
-decreases-loop-row l = l.rows - l.row
+invariant-loop-row l = Written (λ k. response_name l.image k) (3 * l.rows) l.row l.initial.s l.s

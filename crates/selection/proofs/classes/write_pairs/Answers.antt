@@ -4,15 +4,12 @@ use Rattle.selection.proofs.ClassLaws.{written_none, written_more, written_all, 
 use Rattle.selection.proofs.classes.write_pairs.Goals as goal
 
 pub loop-row-init : goal.loop-row-init
-loop-row-init c = (omega arith, written_none _ _ _)
+loop-row-init c = written_none _ _ _
 
 pub loop-row-preserved : goal.loop-row-preserved
 loop-row-preserved c =
     let at = c.loop-row in
-    (omega arith, written_more _ _ at.row at.invariant.1 c.key_place.ensures (pair_kept _ _ _ _ at.row at.invariant.1.frame (omega arith) c.pair_key-key.ensures) c.put.ensures)
-
-pub shape_of-s : goal.shape_of-s
-shape_of-s c = c.loop-row.invariant.1.frame.long
+    written_more _ _ at.row at.invariant c.key_place.ensures (pair_kept _ _ _ _ at.row at.invariant.frame (omega arith) c.pair_key-key.ensures) c.put.ensures
 
 pub returns : goal.returns
-returns c = written_all _ _ c.loop-row.invariant.1 (omega arith)
+returns c = written_all _ _ c.loop-row.invariant (omega arith)

@@ -5,7 +5,8 @@ use mathlib.Core.Path.{◌≡◌, sym, ◌∙◌}
 use mathlib.Core.Bool.{true, false}
 use mathlib.Core.List.{List}
 use Rattle.expand.specs.ImageDocument.{document_by}
-use Rattle.selection.specs.Comparing.{kind_of_clash}
+use mathlib.Core.Option.{none, some}
+use Rattle.merge_theory.specs.Document.{name, arguments}
 use Rattle.merge_theory.specs.Walk.{unless}
 use Rattle.values.specs.Same.{same_arguments}
 use Rattle.tables.specs.Columns.{field_name, field_arguments}
@@ -14,16 +15,16 @@ use Rattle.tables.specs.declared.Range.{Range}
 use Rattle.selection.proofs.walk.same_name_and_arguments.Goals as goal
 
 module _ (image : List ℕ) (a b : ℕ) where
-  other_name : (field_name image a ≡ field_name image b → ⊥) → 15 ≡ kind_of_clash ((pass_of image false).clash a b)
+  other_name : (field_name image a ≡ field_name image b → ⊥) → some name ≡ (pass_of image false).clash a b
   unfolding document_by unless
   other_name ne = rw (ne_eqb _ _ ne)
 
   module _ {p q : Range} (named : field_name image a ≡ field_name image b) (is-p : p ≡ field_arguments image a) (is-q : q ≡ field_arguments image b) where
-    agree : same_arguments image p q ≡ true → 0 ≡ kind_of_clash ((pass_of image false).clash a b)
+    agree : same_arguments image p q ≡ true → none ≡ (pass_of image false).clash a b
     unfolding document_by unless
     agree e = rw (eq-eqb _ _ named, ← is-p, ← is-q, e)
 
-    differ : same_arguments image p q ≡ false → 16 ≡ kind_of_clash ((pass_of image false).clash a b)
+    differ : same_arguments image p q ≡ false → some arguments ≡ (pass_of image false).clash a b
     unfolding document_by unless
     differ e = rw (eq-eqb _ _ named, ← is-p, ← is-q, e)
 

@@ -2,14 +2,14 @@
 use Rattle.selection.proofs.ValidateLaws.{ample_start, ends_early, ends}
 use Rattle.selection.proofs.walk.validate_operation.Goals as goal
 
-pub shape_pass-shaped-requires : goal.shape_pass-shaped-requires
-shape_pass-shaped-requires c = ample_start c.args.work _ _ c.least-budget.ensures
+pub walk_operation-requires : goal.walk_operation-requires
+walk_operation-requires c = rw c.at_start-start.ensures (ample_start c.args.work _ _ c.min-budget.ensures)
 
-pub returns-then-shaped-ne0 : goal.returns-then-shaped-ne0
-returns-then-shaped-ne0 c = ends_early c.arena_of-arena.ensures c.least-budget.ensures c.count.ensures c.clear.ensures c.clear.auto.s c.shape_pass-shaped.ensures c.if-shaped-ne0.true
+pub returns-in-Err : goal.returns-in-Err
+returns-in-Err c = ends_early c.of-arena.ensures c.min-budget.ensures c.count.ensures c.clear.ensures c.clear.auto.s (rw c.at_start-start.ensures at c.in-Err.ensures.runs) c.in-Err.ensures.ends
 
-pub parent_pass-end-requires : goal.parent_pass-end-requires
-parent_pass-end-requires c = c.shape_pass-shaped.ensures.ample c.if-shaped-ne0.false
+pub returns-in-Ok-walk_operation : goal.returns-in-Ok-walk_operation
+returns-in-Ok-walk_operation c = ends c.of-arena.ensures c.min-budget.ensures c.count.ensures c.clear.ensures c.clear.auto.s (rw c.at_start-start.ensures at c.in-Ok.ensures.runs) c.in-Ok.ensures.ends c.in-Ok-walk_operation.ensures.runs
 
-pub returns : goal.returns
-returns c = ends c.arena_of-arena.ensures c.least-budget.ensures c.count.ensures c.clear.ensures c.clear.auto.s c.shape_pass-shaped.ensures c.if-shaped-ne0.false c.parent_pass-end.ensures
+pub returns-in-Err-walk_operation : goal.returns-in-Err-walk_operation
+returns-in-Err-walk_operation c = ends c.of-arena.ensures c.min-budget.ensures c.count.ensures c.clear.ensures c.clear.auto.s (rw c.at_start-start.ensures at c.in-Ok.ensures.runs) c.in-Ok.ensures.ends c.in-Err-walk_operation.ensures.runs

@@ -1,7 +1,0 @@
--- `lists::put` meets its contract: past the end `set` changes nothing. Assumes nothing.
-use mathlib.Core.Path.{sym}
-use lib.Seq.{set_out}
-use Rattle.lists.proofs.put.Goals as goal
-
-pub returns-else-at-s : goal.returns-else-at-s
-returns-else-at-s c = sym (set_out _ _ _ c.if-at-s.false)

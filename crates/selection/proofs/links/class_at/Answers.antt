@@ -1,5 +1,0 @@
--- `links::class_at` meets its contract. Assumes nothing.
-use Rattle.selection.proofs.links.class_at.Goals as goal
-
-pub returns : goal.returns
-returns c = cc
