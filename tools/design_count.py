@@ -46,7 +46,7 @@ POINTS = {
     "1 refusals as numbers": lambda t: lines_of(t, r"(Wrong|By)\(\d+,|refusal\(\d|kind: \d+,|return 1[4-6];|^ +1[4-6]$|kind = 17;|kind != 0|By\(1,"),
     "3 loops counted by hand": hand_counted,
     "3 all while loops": lambda t: lines_of(t, r"^ *while "),
-    "4 conversions and comparisons by hand": lambda t: lines_of(t, r"fn (is_same|least|most|word_of|bytes_of|and|print_number|print_next|span_length)\b"),
+    "4 conversions and comparisons by hand": lambda t: lines_of(t, r"fn (is_same|least|most|word_of\(a|bytes_of|and|print_number|print_next|span_length)\b"),
     "7 switches on a step": lambda t: lines_of(t, r"\bshape: bool\b|\bif shape\b|, (true|false)\)$|, (true|false), LEVELS"),
     "bools by return": lambda t: lines_of(t, r"return (true|false);"),
 }

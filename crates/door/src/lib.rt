@@ -10,8 +10,7 @@ ghost use Rattle.door.specs.Door.{no_words, reply_to_words, reply_to_bytes, repl
 use crate::spelling::{read_words, store_word};
 use query::check::check;
 use selection::arena::Reply;
-
-const NONE: u32 = 4294967295;
+use tables::NONE;
 
 const MOST_BYTES: usize = 32768;
 
@@ -23,7 +22,8 @@ const REPLY_BYTES: usize = 20;
 
 const REPLY_WORDS: usize = 5;
 
-// Bytes that are no words, or too many of them: kind 18 shows how many, or NONE where a word can't hold it.
+// Bytes that are no words, or too many of them: kind 18 shows how many, or NONE where a word can't hold it. Kinds and results here are
+// the numbers that C reads.
 fn refuse_bytes(length: usize) -> Reply
     ensures { result ≡ no_words length }
 {

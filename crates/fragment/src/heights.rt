@@ -49,7 +49,8 @@ impl Height {
     }
 }
 
-// What selections say of a set's place and height: the highest way down through one of them, and whether all lead to lower places.
+// What selections say of a set's place and height: the highest way down through one of them, and whether all lead to lower places. Both
+// at once, since two loops took a fifth more instructions; the height is asked for where the places are not.
 #[derive(Clone, Copy)]
 struct Way {
     height: Height,
@@ -110,14 +111,15 @@ fn height_below(s: &[u32], set: Option<u32>) -> Height
     }
 }
 
-// Whether a selection of this kind is a field with a non-empty set.
+// Whether a selection of this kind, a word, is a field with a non-empty set.
 fn is_nesting(image: &[u32], kind: u32, set: Option<u32>) -> bool
     ensures { result ≡ nests_in image.now kind set }
 {
     kind == SelectionKind::Field as u32 && set.is_some_and(|set| !is_empty_set(image, set))
 }
 
-// The way down through a selection of a set of this place. The selection is read once for both answers.
+// The way down through a selection of a set of this place. The selection is read once for both answers, and its kind compared as a
+// word, for speed.
 #[tactic(auto, unfolding(crate::specs::Order::leads_lower, crate::specs::Order::place_of))]
 fn way_through(image: &[u32], s: &[u32], place: u32, row: u32) -> Way
     ensures height { result.height ≡ row_height image.now (height_at s.now) row }

@@ -10,7 +10,8 @@ use lists::{clear, get, put};
 use tables::columns::{selection_row, set_below, set_selections};
 use tables::{NONE, SETS, count};
 
-// Words for each set: of the heights, of an order or a walk behind them, and of both. Where no heights stand, an order stands behind one.
+// Words for each set: those of the heights, those of an order or a walk behind the heights, and both. FRONT is where an order stands while
+// walks use the words behind the heights: behind one word for each set.
 pub const HEIGHTS: u8 = 3;
 
 pub const ORDER: u8 = 2;
@@ -76,60 +77,78 @@ fn next_unmet(image: &[u32], s: &[u32], set: u32, from: u32) -> Option<Unmet> {
     None
 }
 
-// How many sets are under way, each led to by the one before, and how many have a place.
-#[derive(Clone, Copy, Default)]
-struct Descent {
+// An order under way: the image, the lent words, how many sets are under way, each led to by the one before, and how many have a place.
+#[derive(Drop)]
+struct Descent<'a> {
+    image: &'a [u32],
+    words: &'a mut [u32],
     under: u32,
     placed: u32,
 }
 
-impl Descent {
+impl Descent<'_> {
     // A set is met: its selections are looked at from the first on.
-    fn enter_set(&mut self, image: &[u32], s: &mut [u32], set: u32) {
-        let known = count(image, SETS);
+    fn enter_set(&mut self, set: u32) {
+        let known = count(self.image, SETS);
         if self.under < known {
-            put(s, set as usize, NONE);
-            put(s, (known as usize) + (self.under as usize), set);
+            put(self.words, set as usize, NONE);
+            put(self.words, (known as usize) + (self.under as usize), set);
             self.under += 1;
         }
     }
 
     // All that a set leads to was met: it has the next place.
-    fn leave_set(&mut self, image: &[u32], s: &mut [u32], set: u32) {
-        let known = count(image, SETS);
+    fn leave_set(&mut self, set: u32) {
+        let known = count(self.image, SETS);
         self.under = self.under.saturating_sub(1);
         if self.placed < known {
-            put(s, 2 * (known as usize) - 1 - (self.placed as usize), set);
+            put(
+                self.words,
+                2 * (known as usize) - 1 - (self.placed as usize),
+                set,
+            );
             self.placed += 1;
-            put(s, set as usize, self.placed);
+            put(self.words, set as usize, self.placed);
         }
     }
 
+    // The last set under way.
+    fn last_under_way(&self) -> u32 {
+        let top = (count(self.image, SETS) as usize) + (self.under.saturating_sub(1) as usize);
+        get(&self.words[..], top)
+    }
+
+    // The first set not met before that those selections of a set lead to which were not looked at.
+    fn next_below(&self, set: u32) -> Option<Unmet> {
+        let from = get(&self.words[..], set as usize);
+        let next = if from == NONE { 0 } else { from };
+        next_unmet(self.image, &self.words[..], set, next)
+    }
+
     // One step on from the last set under way: down to a set not met before, or back up.
-    fn step_on(&mut self, image: &[u32], s: &mut [u32]) {
-        let top = (count(image, SETS) as usize) + (self.under.saturating_sub(1) as usize);
-        let set = get(&s[..], top);
-        let from = get(&s[..], set as usize);
-        match next_unmet(image, &s[..], set, if from == NONE { 0 } else { from }) {
+    fn step_on(&mut self) {
+        let set = self.last_under_way();
+        let unmet = self.next_below(set);
+        match unmet {
             Some(unmet) => {
-                put(s, set as usize, unmet.next);
-                self.enter_set(image, s, unmet.set);
+                put(self.words, set as usize, unmet.next);
+                self.enter_set(unmet.set);
             }
-            None => self.leave_set(image, s, set),
+            None => self.leave_set(set),
         }
     }
 
     // A set and all that it leads to, directly or not, get places, where they have none.
-    fn order_below(&mut self, image: &[u32], s: &mut [u32], set: u32) {
-        if get(&s[..], set as usize) != 0 {
+    fn order_below(&mut self, set: u32) {
+        if get(&self.words[..], set as usize) != 0 {
             return;
         }
-        self.enter_set(image, s, set);
-        for _ in 0..2 * (count(image, SETS) as usize) {
+        self.enter_set(set);
+        for _ in 0..2 * (count(self.image, SETS) as usize) {
             if self.under == 0 {
                 return;
             }
-            self.step_on(image, s);
+            self.step_on();
         }
     }
 }
@@ -138,8 +157,13 @@ impl Descent {
 fn order_sets(image: &[u32], s: &mut [u32]) {
     let known = count(image, SETS);
     clear(s, 0, known as usize);
-    let mut descent = Descent::default();
+    let mut descent = Descent {
+        image,
+        words: s,
+        under: 0,
+        placed: 0,
+    };
     for set in 0..known {
-        descent.order_below(image, s, set);
+        descent.order_below(set);
     }
 }

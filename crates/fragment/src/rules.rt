@@ -1,5 +1,6 @@
 // Kinds 5 to 9 in their order. The lent words: three numbers for each set, and behind them first the order of the sets, then the words
-// of walks over reached sets.
+// of walks over reached sets. The image and the words are passed along and are no struct: each contract would have to say that both stay.
+// Each kind has a function of its own: one over a test and an error would take two closures and their clauses.
 ghost use Rattle.std.specs.Prelude.{◌≡◌, ◌+◌, ◌≤◌, ◌<◌, eqb, leb, length, get_or};
 ghost use Rattle.std.proofs.Math.Option.{none};
 ghost use Rattle.lists.specs.First.{◌▷◌};

@@ -108,7 +108,7 @@ impl Index {
         }
     }
 
-    // The same with no first places told: they would stand past the end.
+    // The same with no first places told: they would stand past the end. It only calls the other; both names are promised.
     pub fn build(self, s: &mut [u32])
         ensures { Built s.old self s.new }
     {

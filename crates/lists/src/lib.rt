@@ -1,4 +1,4 @@
-// Words in a lent slice: total reads and stores, and the loop that clears many.
+// Words in a lent slice: total reads and stores, and a store that clears many.
 // No function has a `requires`: a place past the end reads as 0, and a store there does nothing.
 #![tactic(auto)]
 
@@ -28,7 +28,7 @@ pub fn get(s: &[u32], at: usize) -> u32
     s.get(at).copied().unwrap_or(0)
 }
 
-// A word stored at a place; nothing past the end.
+// A word stored at a place; nothing past the end. No `get_mut`: after it a proof knows no element.
 pub fn put(s: &mut [u32], at: usize, v: u32)
     ensures { s.new ≡ set s.old at v }
 {

@@ -20,7 +20,8 @@ fn print_reply(rt: &impl Print, reply: &[u8]) -> io::Result<()> {
     println!(rt; "{kind} {operation} {a} {b} {used}")
 }
 
-// Fills the bytes from the input as far as it goes, and says how many there were.
+// Fills the bytes from the input as far as it goes, and says how many there were. A read may give fewer than there is room for, and no
+// method of the library fills a slice and tells how far.
 fn read_full<R: Read>(input: &mut R, bytes: &mut [u8]) -> io::Result<usize>
     ensures { IfOk result (λ n. n ≤ length bytes.old) }
 {

@@ -1,4 +1,4 @@
-// Why a check ends before all operations pass, and the reply that shows it: the numbers of kinds 1 to 13 stand here alone.
+// Why a check ends before all operations pass, and the reply that shows it: what has kinds 1 to 13 gets its number here.
 ghost use Rattle.std.specs.Prelude.{◌≡◌};
 ghost use Rattle.query.specs.Faults.{refusal_reply, image_reply, fragments_reply, variables_reply, fault_reply};
 ghost use Rattle.query.specs.declared.fault.Fault.TheVariants.{Refused, Image, Fragments};
@@ -115,9 +115,9 @@ impl From<Fault> for Reply {
 
     fn from(fault: Fault) -> Reply {
         match fault {
-            Fault::Refused(refusal) => refusal_reply(refusal),
-            Fault::Image(bad) => image_reply(bad),
-            Fault::Fragments(error) => fragments_reply(error),
+            Fault::Refused(cause) => refusal_reply(cause),
+            Fault::Image(cause) => image_reply(cause),
+            Fault::Fragments(cause) => fragments_reply(cause),
             Fault::Variables {
                 error,
                 operation,

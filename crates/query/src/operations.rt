@@ -11,8 +11,8 @@ use selection::walk::validate_operation;
 use tables::{OPERATIONS, count};
 use variable::rules::{validate_variable_definitions, words_needed};
 
-// One operation: what is used after it, or the reply that ends the check. The rules on variables are lent the words in front, the
-// walk those behind them.
+// One operation: what is used after it, or the fault that ends the check. The rules on variables are lent the words in front, the
+// walk those behind them, whose reply has kind 0 where the operation passes.
 fn check_operation(
     image: &[u32],
     s: &mut [u32],

@@ -20,7 +20,7 @@ const MOST_WORDS: usize = 65536;
 const MOST_SCRATCH: usize = 262144;
 
 // More cases than any input has: a proved loop must end.
-const MOST_CASES: u32 = 4294967295;
+const MOST_CASES: u32 = u32::MAX;
 
 // What a case asks for: a check, or the lookup of a set.
 #[derive(Clone, Copy)]
@@ -115,7 +115,7 @@ fn print_part<W: Write>(out: &mut W, part: &[u32]) -> io::Result<()> {
 
 // What stands at a place of the scratch before a check: nowhere 0.
 fn pattern(at: u32) -> u32 {
-    4294967295 - at
+    u32::MAX - at
 }
 
 fn fill(scratch: &mut [u32], n: u32) {
@@ -127,7 +127,11 @@ fn fill(scratch: &mut [u32], n: u32) {
 // Whether the first words of the scratch are 0, so many of them, and all others as they were filled.
 fn is_kept(scratch: &[u32], n: u32, cleared: u64) -> bool {
     for i in 0..n {
-        let promised = if (i as u64) < cleared { 0 } else { pattern(i) };
+        let promised = if u64::from(i) < cleared {
+            0
+        } else {
+            pattern(i)
+        };
         if get(scratch, i as usize) != promised {
             return false;
         }
@@ -135,7 +139,7 @@ fn is_kept(scratch: &[u32], n: u32, cleared: u64) -> bool {
     true
 }
 
-// The words of scratch that a check hands back as 0: those that it needs, and none where it refuses at once.
+// The words of scratch that a check hands back as 0: those that it needs, and none where it refuses at once, by kinds 1 to 3 of the reply.
 fn words_cleared(image: &[u32], work: u32, kind: u32) -> u64 {
     if (1..=3).contains(&kind) {
         return 0;

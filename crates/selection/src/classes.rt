@@ -59,7 +59,7 @@ fn pair_key(image: &[u32], s: &[u32], rows: u32, types: u32, row: u32) -> u32
     class * (types + 1) + parent_class(image, types, get(s, row as usize))
 }
 
-// The keys become those of pairs. Beside the loop of names this one stays: what it computes reads the slice that it writes.
+// The keys become those of pairs. It has a loop of its own, since its keys are computed from the slice that it writes.
 fn write_pairs(image: &[u32], s: &mut [u32], rows: u32, types: u32)
     requires { (rows ≤ 16384) × (types ≤ 16384) }
     ensures { Keys (λ k. pair_key image.now types s.old rows k) rows s.old s.new }

@@ -64,19 +64,6 @@ pub struct Listed<'i, 'w> {
     pub list: Span,
 }
 
-impl Link {
-    fn column(self) -> u32
-        ensures { result ≡ link_column self }
-    {
-        match self {
-            Link::NextOfName => 0,
-            Link::FirstOfName => 1,
-            Link::NextOfParent => 2,
-            Link::FirstOfParent => 3,
-        }
-    }
-}
-
 impl Among {
     // Which link leads to the next of a segment.
     fn next(self) -> Link
@@ -100,7 +87,7 @@ impl Arena {
     fn link_at(self, s: &[u32], place: u32, link: Link) -> u32
         ensures { result ≡ link_at s.now self place (link_column link) }
     {
-        get(s, self.in_links(place, link.column()))
+        get(s, self.in_links(place, link as u32))
     }
 
     // The next place of a segment, from one of its places; the end where there is none, which is what the links say in place of a None.
@@ -133,7 +120,7 @@ impl<'i, 'w> Listed<'i, 'w> {
         has_object_parent(self.image, self.words, self.arena.row_at(self.words, place))
     }
 
-    // The next place of the same name.
+    // The next place of the same name; the list's end where there is none.
     fn next_of_name(self, place: u32) -> u32
         ensures { result ≡ followed self.entry.words.now self.entry.arena Among.Every place self.entry.list.end }
     {
@@ -141,7 +128,7 @@ impl<'i, 'w> Listed<'i, 'w> {
             .follow(self.words, Among::Every, place, self.list.end)
     }
 
-    // The place of the first group from a place on.
+    // The place of the first group from a place on; the list's end, or the place behind it, where there is none.
     fn find_group(self, from: u32) -> u32
         ensures { result ≡ group_found self.entry.words.now self.entry.arena from self.entry.list.end }
     {
@@ -162,7 +149,7 @@ impl<'i, 'w> Listed<'i, 'w> {
     }
 
     // The place of the first subgroup of an object parent in a group, from a place of the group on; the list's end, where links lead
-    // to that. The loop follows links, and counts nothing.
+    // to that. The loop follows links, and counts nothing. It differs from the next one in its test and its start.
     fn find_subgroup(self, from: u32) -> u32
         ensures { FindsSubgroup self.entry.image.now self.entry.words.now self.entry.arena self.entry.list from result }
     {

@@ -40,21 +40,9 @@ pub struct Run {
 // What two fields of one part conflict in.
 #[derive(Clone, Copy)]
 pub enum Clash {
-    Shape,
-    Name,
-    Arguments,
-}
-
-impl Clash {
-    fn kind(self) -> u32
-        ensures { result ≡ number_of (cause_of self) }
-    {
-        match self {
-            Clash::Shape => 14,
-            Clash::Name => 15,
-            Clash::Arguments => 16,
-        }
-    }
+    Shape = 14,
+    Name = 15,
+    Arguments = 16,
 }
 
 impl Walk {
@@ -102,7 +90,7 @@ impl Walk {
         ensures { result ≡ (conflicted (number_of (cause_of clash)) a b self).reply }
     {
         Reply {
-            kind: clash.kind(),
+            kind: clash as u32,
             a,
             b,
             ..self.reply
@@ -171,9 +159,9 @@ fn filled_set(image: &[u32], row: u32) -> Option<u32>
 
 impl Run {
     // The list at hand is met: charged, and kept where it is new and paid.
-    fn meet_list(self, s: &mut [u32], walk: Walk, list: Span) -> Result<Met, Reply>
+    fn meet_list(&self, s: &mut [u32], walk: Walk, list: Span) -> Result<Met, Reply>
         requires { walk.reply.kind ≡ 0 }
-        ensures meets { MeetsList s.old s.new self.arena self.work walk list (met_from walk result) }
+        ensures meets { MeetsList s.old s.new self.now.arena self.now.work walk list (met_from walk result) }
         ensures ends { EndsMet result }
     {
         let registry = self.arena.registry();
@@ -194,9 +182,15 @@ impl Run {
     }
 
     // The queued sets are expanded, and their list is met; one that is new and paid is linked.
-    fn meet_sets(self, image: &[u32], s: &mut [u32], walk: Walk, x: Expansion) -> Result<Met, Reply>
-        requires { Ample self.work 0 walk × Begun walk x }
-        ensures meets { MeetsSets image.now self.arena self.work s.old s.new walk x (is_shape self.pass) (met_from walk result) }
+    fn meet_sets(
+        &self,
+        image: &[u32],
+        s: &mut [u32],
+        walk: Walk,
+        x: Expansion,
+    ) -> Result<Met, Reply>
+        requires { Ample self.now.work 0 walk × Begun walk x }
+        ensures meets { MeetsSets image.now self.now.arena self.now.work s.old s.new walk x (is_shape self.now.pass) (met_from walk result) }
         ensures ends { EndsMet result }
     {
         let start = x.listed;
@@ -214,7 +208,7 @@ impl Run {
 
     // A field against those of a segment, in order, from one of its places on. The loop follows links, and counts nothing.
     fn compare_segment(
-        self,
+        &self,
         image: &[u32],
         s: &[u32],
         walk: Walk,
@@ -223,7 +217,7 @@ impl Run {
         a: u32,
         from: u32,
     ) -> Result<(), Reply>
-        ensures compares { ComparesSegment image.now s.now self.arena walk list segment (is_shape self.pass) a from (ended_here walk result) }
+        ensures compares { ComparesSegment image.now s.now self.now.arena walk list segment (is_shape self.now.pass) a from (ended_here walk result) }
         ensures stops { Stops result }
     {
         let mut place = from;
@@ -238,8 +232,8 @@ impl Run {
     }
 
     // The first field of a part against each other, in order.
-    fn compare_part(self, image: &[u32], s: &[u32], walk: Walk, part: Part) -> Result<(), Reply>
-        ensures compares { ComparesPart image.now s.now self.arena walk part (is_shape self.pass) (ended_here walk result) }
+    fn compare_part(&self, image: &[u32], s: &[u32], walk: Walk, part: Part) -> Result<(), Reply>
+        ensures compares { ComparesPart image.now s.now self.now.arena walk part (is_shape self.now.pass) (ended_here walk result) }
         ensures stops { Stops result }
     {
         let a = self.arena.row_at(s, part.first);
@@ -250,8 +244,8 @@ impl Run {
     }
 
     // The set of a field is queued, if it has one that is not empty.
-    fn queue_field(self, image: &[u32], s: &mut [u32], x: Expansion, row: u32) -> Expansion
-        ensures { (result ≡ field_next image.now self.arena x row) × (s.new ≡ field_words image.now self.arena x s.old row) }
+    fn queue_field(&self, image: &[u32], s: &mut [u32], x: Expansion, row: u32) -> Expansion
+        ensures { (result ≡ field_next image.now self.now.arena x row) × (s.new ≡ field_words image.now self.now.arena x s.old row) }
     {
         match filled_set(image, row) {
             Some(set) => self.arena.area().queue_set(s, x, set),
@@ -261,7 +255,7 @@ impl Run {
 
     // The sets of a segment's fields are queued, from one of its places on. The loop follows links, and counts nothing.
     fn queue_segment(
-        self,
+        &self,
         image: &[u32],
         s: &mut [u32],
         x: Expansion,
@@ -269,7 +263,7 @@ impl Run {
         segment: Segment,
         from: u32,
     ) -> Expansion
-        ensures { QueuesSegment image.now self.arena s.old s.new x result list segment from }
+        ensures { QueuesSegment image.now self.now.arena s.old s.new x result list segment from }
     {
         let mut next = x;
         let mut place = from;
@@ -282,16 +276,16 @@ impl Run {
     }
 
     // The sets of a part's fields are queued.
-    fn queue_part(self, image: &[u32], s: &mut [u32], x: Expansion, part: Part) -> Expansion
-        ensures { QueuesPart image.now self.arena s.old s.new x result part }
+    fn queue_part(&self, image: &[u32], s: &mut [u32], x: Expansion, part: Part) -> Expansion
+        ensures { QueuesPart image.now self.now.arena s.old s.new x result part }
     {
         let front = self.queue_segment(image, s, x, part.list, part.front, part.first);
         self.queue_segment(image, s, front, part.list, part.back, part.next)
     }
 
     // Whether a part is one field without a set, so that there is nothing to compare or to meet.
-    fn is_bare(self, image: &[u32], s: &[u32], part: Part) -> bool
-        ensures { Bare image.now s.now self.arena part result }
+    fn is_bare(&self, image: &[u32], s: &[u32], part: Part) -> bool
+        ensures { Bare image.now s.now self.now.arena part result }
     {
         let end = part.list.end;
         let among = part.front.among;
@@ -299,10 +293,17 @@ impl Run {
         alone && filled_set(image, self.arena.row_at(s, part.first)).is_none()
     }
 
-    // A part that is compared, and its sets met.
-    fn meet_fields(self, image: &[u32], s: &mut [u32], walk: Walk, part: Part) -> Result<Met, Reply>
-        requires { Ample self.work 0 walk }
-        ensures meets { MeetsPart image.now self.arena self.work s.old s.new walk part (is_shape self.pass) (met_from walk result) }
+    // A part that is compared, and its sets met. Kept out of the walk, whose every level would have the words of its locals on the stack.
+    #[inline(never)]
+    fn meet_fields(
+        &self,
+        image: &[u32],
+        s: &mut [u32],
+        walk: Walk,
+        part: Part,
+    ) -> Result<Met, Reply>
+        requires { Ample self.now.work 0 walk }
+        ensures meets { MeetsPart image.now self.now.arena self.now.work s.old s.new walk part (is_shape self.now.pass) (met_from walk result) }
         ensures ends { EndsMet result }
     {
         self.compare_part(image, &s[..], walk, part)?;
@@ -314,9 +315,9 @@ impl Run {
     }
 
     // One part; one field without a set is passed over.
-    fn meet_part(self, image: &[u32], s: &mut [u32], walk: Walk, part: Part) -> Result<Met, Reply>
-        requires { Ample self.work 0 walk }
-        ensures meets { MeetsPart image.now self.arena self.work s.old s.new walk part (is_shape self.pass) (met_from walk result) }
+    fn meet_part(&self, image: &[u32], s: &mut [u32], walk: Walk, part: Part) -> Result<Met, Reply>
+        requires { Ample self.now.work 0 walk }
+        ensures meets { MeetsPart image.now self.now.arena self.now.work s.old s.new walk part (is_shape self.now.pass) (met_from walk result) }
         ensures ends { EndsMet result }
     {
         if self.is_bare(image, &s[..], part) {
@@ -325,55 +326,50 @@ impl Run {
         self.meet_fields(image, s, walk, part)
     }
 
+    // A list as it stands in the words.
+    fn listed<'i, 'w>(&self, image: &'i [u32], s: &'w [u32], list: Span) -> Listed<'i, 'w>
+        ensures { (result.image.now ≡ image.now) × (result.words.now ≡ s.now) × (result.arena ≡ self.now.arena) × (result.list ≡ list) }
+    {
+        Listed {
+            image,
+            words: s,
+            arena: self.arena,
+            list,
+        }
+    }
+
     // Where the pass over a list begins.
-    fn first_part(self, image: &[u32], s: &[u32], list: Span) -> Cursor
-        ensures { FirstPart image.now s.now self.arena (is_shape self.pass) list result }
+    fn first_part(&self, image: &[u32], s: &[u32], list: Span) -> Cursor
+        ensures { FirstPart image.now s.now self.now.arena (is_shape self.now.pass) list result }
     {
-        let listed = Listed {
-            image,
-            words: s,
-            arena: self.arena,
-            list,
-        };
-        listed.first_part(self.pass)
+        self.listed(image, s, list).first_part(self.pass)
     }
 
-    fn part_at(self, image: &[u32], s: &[u32], list: Span, cursor: Cursor) -> Part
-        ensures { result ≡ part_in image.now s.now self.arena.store list (is_shape self.pass) cursor }
+    fn part_at(&self, image: &[u32], s: &[u32], list: Span, cursor: Cursor) -> Part
+        ensures { result ≡ part_in image.now s.now self.now.arena.store list (is_shape self.now.pass) cursor }
     {
-        let listed = Listed {
-            image,
-            words: s,
-            arena: self.arena,
-            list,
-        };
-        listed.part_at(self.pass, cursor)
+        self.listed(image, s, list).part_at(self.pass, cursor)
     }
 
-    fn next_part(self, image: &[u32], s: &[u32], list: Span, cursor: Cursor) -> Cursor
+    fn next_part(&self, image: &[u32], s: &[u32], list: Span, cursor: Cursor) -> Cursor
         requires { cursor.group < list.end }
-        ensures { NextPart image.now s.now self.arena (is_shape self.pass) list cursor result }
+        ensures { NextPart image.now s.now self.now.arena (is_shape self.now.pass) list cursor result }
     {
-        let listed = Listed {
-            image,
-            words: s,
-            arena: self.arena,
-            list,
-        };
-        listed.next_part(self.pass, cursor)
+        self.listed(image, s, list).next_part(self.pass, cursor)
     }
 
-    // The pass over a list, part by part, each with all that is below it. `level` falls.
+    // The pass over a list, part by part, each with all that is below it: by groups the crate's same_response_shape_by_name, by subgroups
+    // its same_for_common_parents_by_name. `level` falls.
     fn walk_list(
-        self,
+        &self,
         image: &[u32],
         s: &mut [u32],
         walk: Walk,
         list: Span,
         level: u32,
     ) -> Result<Walk, Reply>
-        requires { Ample self.work 0 walk }
-        ensures walks { WalksList image.now self.arena self.work s.old s.new walk list (is_shape self.pass) level (ended walk result) }
+        requires { Ample self.now.work 0 walk }
+        ensures walks { WalksList image.now self.now.arena self.now.work s.old s.new walk list (is_shape self.now.pass) level (ended walk result) }
         ensures ends { Ends result }
     {
         if level == 0 {
@@ -395,14 +391,14 @@ impl Run {
 
     // The operation's own set is met, with no words of known lists.
     fn meet_operation(
-        self,
+        &self,
         image: &[u32],
         s: &mut [u32],
         walk: Walk,
         operation: u32,
     ) -> Result<Met, Reply>
-        requires { Ample self.work 0 walk }
-        ensures meets { MeetsOperation image.now self.arena self.work operation s.old s.new walk (is_shape self.pass) (met_from walk result) }
+        requires { Ample self.now.work 0 walk }
+        ensures meets { MeetsOperation image.now self.now.arena self.now.work operation s.old s.new walk (is_shape self.now.pass) (met_from walk result) }
         ensures ends { EndsMet result }
     {
         let next = Walk { known: 0, ..walk };
@@ -415,14 +411,14 @@ impl Run {
 
     // The pass over the operation, with nothing known.
     fn walk_operation(
-        self,
+        &self,
         image: &[u32],
         s: &mut [u32],
         walk: Walk,
         operation: u32,
     ) -> Result<Walk, Reply>
-        requires { Ample self.work 0 walk }
-        ensures runs { Runs image.now self.arena self.work operation s.old s.new walk (is_shape self.pass) (ended walk result) }
+        requires { Ample self.now.work 0 walk }
+        ensures runs { Runs image.now self.now.arena self.now.work operation s.old s.new walk (is_shape self.now.pass) (ended walk result) }
         ensures ends { Ends result }
     {
         self.arena.registry().forget(s);
@@ -434,7 +430,7 @@ impl Run {
     }
 }
 
-// The merge walk of one operation: kind 0, or 14 to 17. `used` goes on from the operations before.
+// The merge walk of one operation: a reply of kind 0, or 14 to 17. It can't fail, so it gives no Result. `used` goes on from the operations before.
 pub fn validate_operation(
     image: &[u32],
     s: &mut [u32],

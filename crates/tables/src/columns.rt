@@ -1,5 +1,6 @@
 // The cells of the tables by name, and what they mean together: ranges, whole rows, innermost types, the set that a selection
-// leads to. Every function is total, and its contract is the column of that name in specs/Columns.
+// leads to. Every function is total, and its contract is the column of that name in specs/Columns. A reader is one line, its name is the
+// column, and it gives the very word of any image; the kind that a word stands for is asked beside it.
 ghost use Rattle.std.specs.Prelude.{◌≡◌, ◌+◌, ◌≤◌, ◌<◌, ◌*◌, ◌^◌, length};
 ghost use Rattle.tables.specs.Image.{offset_at, width_at, word_at};
 ghost use Rattle.tables.specs.Columns.{type_name, type_kind, reference_kind, reference_child, operation_variables, operation_directives, fragment_directives, set_parent, set_selections, selection_kind, response_name, field_name, field_type, field_arguments, selection_target, selection_directives, argument_name, argument_type, argument_default, value_kind, value_key, value_atom, value_members, variable_name, variable_type, variable_default};
@@ -71,7 +72,7 @@ pub enum ValueKind {
     Object,
 }
 
-// The kind that a word stands for, if it stands for one.
+// The kind that a word stands for, if it stands for one. No TryFrom: its error would have a type and say nothing.
 pub fn type_kind_of(word: u32) -> Option<TypeKind>
     ensures { IsTypeKind word result }
 {
@@ -302,7 +303,7 @@ pub fn variable_default(image: &[u32], row: u32) -> u32
     cell(image, VARIABLES, row, 2)
 }
 
-// A whole row at once, with one look at the image's end; where that comes too soon, word by word.
+// A whole row at once, with one look at the image's end, for speed; where that comes too soon, word by word.
 #[tactic(auto, unfolding(crate::specs::Image::cell_at, crate::specs::Image::word_at))]
 pub fn set_row(image: &[u32], row: u32) -> Set
     ensures { result ≡ set_at image.now row }
@@ -398,7 +399,8 @@ fn is_list_reference(kind: u32) -> bool
     )
 }
 
-// The type at the core of a reference. Children of lists are earlier references; where one is not, NONE.
+// The type at the core of a reference. Children of lists are earlier references; where one is not, NONE, a row past all types: theorems
+// cite it as a number. The loop follows children, and counts nothing.
 pub fn innermost(image: &[u32], reference: u32) -> u32
     ensures { result ≡ innermost image.now reference }
 {
@@ -413,7 +415,7 @@ pub fn innermost(image: &[u32], reference: u32) -> u32
     reference_child(image, row)
 }
 
-// The set of a fragment; NONE past all rows.
+// The set of a fragment; NONE past all rows, and no Option: theorems cite it as a number.
 #[tactic(auto, unfolding(crate::specs::Columns::fragment_set))]
 pub fn fragment_set(image: &[u32], fragment: u32) -> u32
     ensures { result ≡ fragment_set image.now fragment }
@@ -428,7 +430,7 @@ pub fn is_fragment_set(image: &[u32], set: u32) -> bool
 {
     let operations = count(image, OPERATIONS);
     let fragments = count(image, FRAGMENTS);
-    operations <= set && (set as u64) < (operations as u64) + (fragments as u64)
+    operations <= set && u64::from(set) < u64::from(operations) + u64::from(fragments)
 }
 
 // The set that a word names; NONE names none.
@@ -438,7 +440,8 @@ fn named_set(word: u32) -> Option<u32>
     (word != NONE).then_some(word)
 }
 
-// The set that a selection leads to: its own or its fragment's.
+// The set that a selection leads to: its own or its fragment's. The kind is compared as a word, for speed: this is asked of every
+// selection of every walk.
 #[tactic(auto, unfolding(crate::specs::Columns::set_below))]
 pub fn set_below(image: &[u32], row: Selection) -> Option<u32>
     ensures { result ≡ set_or_none (set_below image.now row) }

@@ -6,7 +6,7 @@ ghost use Rattle.tables.specs.Keys.{key_of, key_in};
 use crate::columns::{argument_name, value_key};
 use crate::{ARGUMENTS, Range};
 
-// The key of a row: of table 6 its name, of table 7 its key.
+// The key of a row: of table 6 its name, of table 7 its key. The table is a number, as in `cell`.
 #[tactic(auto, unfolding(crate::specs::Keys::key_of))]
 pub fn key_of(image: &[u32], table: u8, row: u32) -> u32
     ensures { result ≡ key_of image.now table row }

@@ -18,6 +18,7 @@ pub mod lookup;
 // The word that stands for no row.
 pub const NONE: u32 = u32::MAX;
 
+// Tables are numbers and no enum: `count`, `offset`, `cell`, `row_width` and `most_rows` answer for every number.
 pub const TYPES: u8 = 0;
 
 pub const REFERENCES: u8 = 1;
@@ -80,7 +81,7 @@ pub fn most_rows(edition: u32, table: u8) -> u32
 pub fn header_words(edition: u32) -> u32
     ensures { result ≡ header_words edition }
 {
-    2 + 2 * (table_count(edition) as u32)
+    2 + 2 * u32::from(table_count(edition))
 }
 
 // Word `at` of the image; 0 past the end.
@@ -130,7 +131,7 @@ pub struct Range {
 }
 
 impl Range {
-    // The row that stands `i` rows into a range; NONE past all rows.
+    // The row that stands `i` rows into a range; NONE past all rows, and no Option: theorems cite `row_in` as a number.
     #[tactic(auto, unfolding(crate::specs::Image::row_in))]
     pub fn row(self, i: u32) -> u32
         ensures { result ≡ row_in self i }
@@ -142,6 +143,6 @@ impl Range {
     pub fn lies_within(self, rows: u32) -> bool
         ensures { result ≡ lies_within self rows }
     {
-        (self.first as u64) + (self.count as u64) <= (rows as u64)
+        u64::from(self.first) + u64::from(self.count) <= u64::from(rows)
     }
 }

@@ -34,6 +34,7 @@ pub(crate) fn marks_at(image: &[u32]) -> usize
     ends_at(image) + (count(image, VALUES) as usize)
 }
 
+// Kinds are compared as words here and below, for speed: they are asked of every row.
 fn is_spread(selection: Selection) -> bool
     ensures { result ≡ eqb selection.kind spread }
 {
@@ -90,7 +91,7 @@ pub struct Tally<'a, 'b> {
 }
 
 impl Tally<'_, '_> {
-    // What the words say, read by the functions above and those of `names`.
+    // What the words say, read by the functions above and those of `names`, which take shared words, as they always did.
     pub(crate) fn end_of_row(&self, row: u32) -> u32
         ensures { result ≡ end_in self.now.image.now self.now.words.now row }
     {

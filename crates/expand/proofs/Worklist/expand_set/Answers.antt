@@ -13,9 +13,3 @@ loop-i-preserved c =
     let l = c.loop-i.invariant in
     let row = c.expand_selection.ensures in
     record { same = same_on l.same row.same; steps = steps_more _ c.loop-i.i l.steps c.row.ensures (rw (l.same.image, l.same.area) at row.steps) }
-
-pub returns : goal.returns
-returns c =
-    let l = c.loop-i in
-    let all : l.i ≡ c.set_selections-rows.result.count = omega arith in
-    record { same = l.invariant.same; steps = steps_all c.set_selections-rows.ensures all l.invariant.steps }

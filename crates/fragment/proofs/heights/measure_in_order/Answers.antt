@@ -23,9 +23,6 @@ loop-placed-preserved c =
       turn_passes _ _ (omega arith) l.invariant.0 turn.0 read turn.1 c.if-not-measure_in_turn.false l.invariant.2,
     )
 
-pub shape_of-s-then-not-measure_in_turn : goal.shape_of-s-then-not-measure_in_turn
-shape_of-s-then-not-measure_in_turn c = c.measure_in_turn.auto.s ∙ c.loop-placed.invariant.0.long ∙ c.clear_heights.auto.s
-
 pub returns-then-not-measure_in_turn : goal.returns-then-not-measure_in_turn
 returns-then-not-measure_in_turn c =
     let l = c.loop-placed in
@@ -37,9 +34,6 @@ returns-then-not-measure_in_turn c =
       sym (turn_fails _ _ (omega arith) l.invariant.0 turn.0 read turn.1 c.if-not-measure_in_turn.true) ∙ turns_kept _ _ _ before _ (le_refl _),
       λ e. absurd (false≢true e),
     )
-
-pub shape_of-s : goal.shape_of-s
-shape_of-s c = c.loop-placed.invariant.0.long ∙ c.clear_heights.auto.s
 
 pub returns : goal.returns
 returns c =

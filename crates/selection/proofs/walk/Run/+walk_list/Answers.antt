@@ -19,7 +19,7 @@ pub loop-at-init : goal.loop-at-init
 loop-at-init t c =
     let a = c.args in
     record {
-      loop = part_first (is_shape a.self.pass) a.list (a.level - 1) c.requires c.first_part-at.ensures;
+      loop = part_first (is_shape a.self.now.pass) a.list (a.level - 1) c.requires c.first_part-at.ensures;
       ample = c.requires;
       below = λ less. c.first_part-at.ensures.below (rw c.first_part-at.ensures.same at less);
     }
@@ -30,7 +30,7 @@ returns-in_err-met t c =
     let at-loop = c.loop-at in
     let p = err_from_is_err_and c.from_residual.result c.from_residual.ensures.1 in
     let met = c.in_err-met.ensures in
-    let turned = part_turn (is_shape a.self.pass) at-loop.at at-loop.invariant.loop at-loop.invariant.ample c.loop-at-test.true c.part_at-part.ensures
+    let turned = part_turn (is_shape a.self.now.pass) at-loop.at at-loop.invariant.loop at-loop.invariant.ample c.loop-at-test.true c.part_at-part.ensures
     (stepped_flat c.meet_part.auto.s met.meets (a.level - 1) refl) in
     rw (p.1, p.2) (record { walks = walks_stopped met.ends refl (le_refl _) (loop_stop turned a.level (omega (arith, c.if-level-eq0.false)) met.ends); ends = met.ends })
 
@@ -40,7 +40,7 @@ returns-in_err-next-in-Some t c =
     let at-loop = c.loop-at in
     let p = err_from_is_err_and c.from_residual-in_err-next-in-Some.result c.from_residual-in_err-next-in-Some.ensures.1 in
     let walked = c.in_err-next-in-Some.ensures in
-    let turned = part_turn (is_shape a.self.pass) at-loop.at at-loop.invariant.loop at-loop.invariant.ample c.loop-at-test.true c.part_at-part.ensures
+    let turned = part_turn (is_shape a.self.now.pass) at-loop.at at-loop.invariant.loop at-loop.invariant.ample c.loop-at-test.true c.part_at-part.ensures
     (stepped_deeper c.meet_part.auto.s c.in_ok-met.ensures.meets c.in-Some.is walked.walks) in
     rw (p.1, p.2) (record { walks = walks_stopped walked.ends refl (le_refl _) (loop_stop turned a.level (omega (arith, c.if-level-eq0.false)) walked.ends); ends = walked.ends })
 
@@ -55,22 +55,22 @@ loop-at-preserved t c =
     let at-loop = c.loop-at in
     let met = c.in_ok-met.ensures in
     let long = c.meet_part.auto.s in
-    let (step, go) : Stepped a.image.now a.self.arena a.self.work at-loop.s c.match-met.s at-loop.next c.part_at-part.result (is_shape a.self.pass) (a.level - 1) c.match-met.next × (c.match-met.next.reply.kind ≡ 0) =
+    let (step, go) : Stepped a.image.now a.self.now.arena a.self.now.work at-loop.s c.match-met.s at-loop.next c.part_at-part.result (is_shape a.self.now.pass) (a.level - 1) c.match-met.next × (c.match-met.next.reply.kind ≡ 0) =
     elim c.match-met.branch [
       | in-Some+in_ok-next-in-Some w ↦
           let walked = w.in_ok-next-in-Some.ensures in
           (stepped_as w.s-is w.next-is (stepped_deeper long met.meets w.in-Some.is walked.walks), ap (λ z. z.reply.kind) w.next-is ∙ walked.ends)
       | in-None w ↦ (stepped_as w.s-is w.next-is (stepped_flat long met.meets (a.level - 1) (ap is_some w.in-None.is)), ap (λ z. z.reply.kind) w.next-is ∙ met.ends)
     ] in
-    let turned = part_turn (is_shape a.self.pass) at-loop.at at-loop.invariant.loop at-loop.invariant.ample c.loop-at-test.true c.part_at-part.ensures step in
+    let turned = part_turn (is_shape a.self.now.pass) at-loop.at at-loop.invariant.loop at-loop.invariant.ample c.loop-at-test.true c.part_at-part.ensures step in
     record {
-      loop = part_found (is_shape a.self.pass) at-loop.at turned go c.next_part-at.ensures;
+      loop = part_found (is_shape a.self.now.pass) at-loop.at turned go c.next_part-at.ensures;
       ample = step.ample go;
       below = c.next_part-at.ensures.below;
     }
 
 pub returns : goal.returns
 returns t c = record {
-  walks = part_none (is_shape c.args.self.pass) c.loop-at.at c.loop-at.invariant.loop (omega (arith, c.loop-at-test.false)) c.args.level (omega (arith, c.if-level-eq0.false));
+  walks = part_none (is_shape c.args.self.now.pass) c.loop-at.at c.loop-at.invariant.loop (omega (arith, c.loop-at-test.false)) c.args.level (omega (arith, c.if-level-eq0.false));
   ends = c.loop-at.invariant.ample.going;
 }

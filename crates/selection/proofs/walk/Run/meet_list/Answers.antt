@@ -45,7 +45,7 @@ returns-in_err-paid c =
     let refused = c.in_err-paid.ensures in
     let slot = c.slot_of-slot.ensures in
     rw (p.1, p.2) (record {
-      meets = known_already _ _ _ _ _ (found _ c.args.self.arena _ c.registry-registry.ensures slot (rw c.if-is_known.true at c.is_known.ensures)) refused.charges;
+      meets = known_already _ _ _ _ _ (found _ c.args.self.now.arena _ c.registry-registry.ensures slot (rw c.if-is_known.true at c.is_known.ensures)) refused.charges;
       ends = refused.ends c.requires;
     })
 
@@ -53,7 +53,7 @@ pub returns-then-is_known : goal.returns-then-is_known
 returns-then-is_known c =
     let slot = c.slot_of-slot.ensures in
     record {
-      meets = known_already _ _ _ _ _ (found _ c.args.self.arena _ c.registry-registry.ensures slot (rw c.if-is_known.true at c.is_known.ensures)) c.in_ok-paid.ensures.charges;
+      meets = known_already _ _ _ _ _ (found _ c.args.self.now.arena _ c.registry-registry.ensures slot (rw c.if-is_known.true at c.is_known.ensures)) c.in_ok-paid.ensures.charges;
       ends = c.in_ok-paid.ensures.ends c.requires;
     }
 
@@ -64,7 +64,7 @@ returns-in_err-paid-2 c =
     let slot = c.slot_of-slot.ensures in
     let registry = c.registry-registry.ensures in
     rw (p.1, p.2) (record {
-      meets = not_paid _ _ _ _ _ (found _ c.args.self.arena _ registry slot (rw c.if-is_known.false at c.is_known.ensures)) c.len.ensures refused.charges (refused.ends c.requires);
+      meets = not_paid _ _ _ _ _ (found _ c.args.self.now.arena _ registry slot (rw c.if-is_known.false at c.is_known.ensures)) c.len.ensures refused.charges (refused.ends c.requires);
       ends = refused.ends c.requires;
     })
 
@@ -74,7 +74,7 @@ returns c =
     let registry = c.registry-registry.ensures in
     let paid = c.in_ok-paid-2.ensures in
     record {
-      meets = stored _ _ _ _ _ (found _ c.args.self.arena _ registry slot (rw c.if-is_known.false at c.is_known.ensures))
+      meets = stored _ _ _ _ _ (found _ c.args.self.now.arena _ registry slot (rw c.if-is_known.false at c.is_known.ensures))
           c.len.ensures paid.charges (paid.ends c.requires)
           c.keep-known.ensures.0 (rw registry at slot) (rw registry at c.keep-known.ensures.1);
       ends = paid.ends c.requires;

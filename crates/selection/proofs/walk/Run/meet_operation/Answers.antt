@@ -3,7 +3,7 @@ use Rattle.selection.proofs.OperationLaws.{ample_forgotten, begun_set, operation
 use Rattle.selection.proofs.walk.Run.meet_operation.Goals as goal
 
 pub meet_sets-requires : goal.meet_sets-requires
-meet_sets-requires c = (ample_forgotten c.requires, begun_set c.args.self.arena c.begin_expansion.ensures.0 (rw c.area.ensures at c.queue_set-queued.ensures.0))
+meet_sets-requires c = (ample_forgotten c.requires, begun_set c.args.self.now.arena c.begin_expansion.ensures.0 (rw c.area.ensures at c.queue_set-queued.ensures.0))
 
 pub returns : goal.returns
 returns c =

@@ -4,4 +4,4 @@ use Rattle.selection.proofs.PartMeets.{part_bare}
 use Rattle.selection.proofs.walk.Run.meet_part.Goals as goal
 
 pub returns-then-is_bare : goal.returns-then-is_bare
-returns-then-is_bare c = record { meets = part_bare (is_shape c.args.self.pass) c.requires c.is_bare.ensures c.if-is_bare.true; ends = c.requires.going }
+returns-then-is_bare c = record { meets = part_bare (is_shape c.args.self.now.pass) c.requires c.is_bare.ensures c.if-is_bare.true; ends = c.requires.going }
