@@ -5,18 +5,22 @@ use mathlib.Core.Path.{◌≡◌, refl, sym}
 use mathlib.Core.List.{List}
 use mathlib.Core.Bool.{Bool, true, false, cond}
 use mathlib.Core.Option.{Option, none, some}
-use native.Mathlib.Nat.{add-mul, mul-le-mul_right}
+use native.Mathlib.Nat.{add-mul, mul-le-mul_right, add-sub_cancel_left, sub_self}
 use native.Mathlib.Omega.{arith}
 use borrow.Author.Tests.{lt-ltb, le-ltb, leb-true}
+use borrow.Rule.Slice.PartAt.{sl_partˢ}
+use borrow.Rule.Slice.Shared.{by_size}
+use denote.Ref.{Bor}
 use lib.Dec.{ltb, leb}
 use lib.ListN.{length}
 use Rattle.tables.specs.Layout.{sets, selections}
 use Rattle.tables.specs.Image.{word_at, count_at, offset_at, end_of, width_at, lies_within}
 use Rattle.tables.specs.declared.Range.{Range}
 use Rattle.tables.specs.Header.{Refusal, header_fault, header_shows}
-use Rattle.tables.specs.Lookup.{unless, rows_place, set_place}
+use Rattle.tables.specs.Lookup.{unless, rows_place, set_place, PartOf}
 use Rattle.tables.specs.Columns.{set_selections}
 use Rattle.std.specs.Prelude.{Result, Ok, Err, Some, None}
+use Rattle.std.specs.Prelude as Std
 use Rattle.std.specs.Result.{result_ok}
 use Rattle.tables.specs.declared.header.BadHeader.{BadHeader}
 use Rattle.tables.specs.declared.lookup.Place.{Place}
@@ -80,3 +84,10 @@ place_inside image set place at = go (header_fault image) (ltb set (count_at ima
     go none true false good few e = never e
     go none false few good t e = never e
     go (some a) is_set few good t e = never e
+
+-- what the code returns is the part of the slice at the place
+pub part_at : (whole : Bor (List ℕ)) {place : Std.Option Place} {start words : ℕ} → place ≡ Some (record { start = start; words = words }) → PartOf whole place (sl_partˢ whole (by_size 4 start whole.ref_ptr.1) start (start + words))
+part_at whole {start} {words} this = rw this (record { holds = rw add-sub_cancel_left; block = refl; lies = omega arith })
+
+pub part_nowhere : (whole : Bor (List ℕ)) {place : Std.Option Place} → place ≡ None → PartOf whole place (sl_partˢ whole (by_size 4 (length whole.now) whole.ref_ptr.1) (length whole.now) (length whole.now))
+part_nowhere whole this = rw this (record { holds = rw sub_self; block = refl; lies = omega arith })
