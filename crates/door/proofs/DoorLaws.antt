@@ -1,8 +1,9 @@
 -- What the door reads and writes. Assumes nothing.
-use Prim.Native.Nat.{ℕ, zero, suc, ◌+◌, ◌≤◌, min}
+use Prim.Native.Nat.{ℕ, zero, suc, ◌+◌, ◌≤◌, ◌%◌, min}
 use mathlib.Core.Path.{◌≡◌, refl, sym, ap, ◌∙◌}
 use mathlib.Core.List.{List, [], ◌++◌, append-nil, append_assoc}
 use native.Mathlib.Omega.{arith}
+use borrow.Author.Tests.{ne_eqb}
 use lib.ListN.{length, take, drop, length-append, drop_of_length-le}
 use lib.Seq.{drop-drop, take_at, drop_at}
 use Rattle.lists.specs.Part.{part, write}
@@ -10,7 +11,13 @@ use Rattle.lists.proofs.Parts.{part_write, length_write}
 use Rattle.selection.specs.declared.arena.Reply.{Reply}
 use Rattle.query.specs.Reply.{reply}
 use Rattle.door.specs.Spelling.{words_of, bytes_of}
-use Rattle.door.specs.Door.{reply_to_words, reply_bytes}
+use Rattle.door.specs.Door.{no_words, reply_to_words, reply_to_bytes, reply_bytes}
+
+-- ---- bytes that are refused
+
+pub no_words_lem : (bytes : List ℕ) (budget : ℕ) {r : Reply} → (length bytes % 4 ≡ 0 → ⊥) → r ≡ no_words (length bytes) → r ≡ reply_to_bytes bytes budget
+unfolding reply_to_bytes
+no_words_lem bytes budget h e = rw (ne_eqb _ _ h) e
 
 -- ---- words that were read
 

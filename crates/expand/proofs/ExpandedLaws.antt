@@ -1,9 +1,11 @@
 -- What a caller of `expand_selections` and `queue_set` takes from their contracts. Assumes nothing but what each law names.
 use mathlib.Core.Path.{◌≡◌, ◌∙◌}
+use mathlib.Core.Bool.{false}
 use mathlib.Core.List.{List, [], ◌∷◌, ◌++◌}
 use Prim.Native.Nat.{ℕ, ◌+◌, ◌-◌, ◌≤◌, ◌<◌, min}
 use native.Mathlib.Omega.{arith}
-use borrow.Author.Tests.{lt-ltb}
+use borrow.Author.Tests.{lt-ltb, le-ltb}
+use lib.Dec.{ltb}
 use lib.ListN.{length, set}
 use Rattle.lists.specs.Part.{Stores, Outside}
 use Rattle.lists.proofs.Parts.{pushed, set_outside}
@@ -38,6 +40,14 @@ module _ (area : Area) (x : Expansion) (s : List ℕ) (t : ℕ) (room : area.que
 
   pub queue_outside : Outside (area.queue + x.queued) 1 s (queue_words area x s t)
   queue_outside = rw queue_words_lem (set_outside s (area.queue + x.queued) t)
+
+-- and where it has none, nothing changes
+pub queue_full : (area : Area) (x : Expansion) (s : List ℕ) (t : ℕ) {at : ℕ} (here : at ≡ area.queue + x.queued) → area.end ≤ at → (x ≡ queue_next area x) × (s ≡ queue_words area x s t)
+unfolding queue_next queue_words
+queue_full area x s t here full =
+    let past : area.end ≤ area.queue + x.queued = omega arith in
+    let full : ltb (area.queue + x.queued) area.end ≡ false = le-ltb _ _ past in
+    (rw full, rw full)
 
 -- ---- one place further
 

@@ -1,16 +1,25 @@
--- Laws of the tables whose rows are judged one by one: where a set starts, the rule of a table by its number, and what a search for the first bad
--- row found. Assumes nothing.
+-- Laws of the tables whose rows are judged one by one: a variable whose type is there, where a set starts, and what a search for the first bad row
+-- found. Assumes nothing.
 use Prim.Native.Nat.{ℕ, zero, suc, ◌+◌, ◌-◌, ◌<◌}
 use mathlib.Core.Path.{◌≡◌, refl, sym, ap}
 use mathlib.Core.Bool.{true, false}
 use mathlib.Core.List.{List}
 use native.Mathlib.Numerals.{sub-one}
+use borrow.Author.Tests.{lt-ltb}
+use lib.Dec.{leb}
 use Rattle.lists.proofs.EveryLaws.{first_bad_lem}
 use Rattle.tables.specs.declared.Range.{Range}
 use Rattle.rows.specs.RowFault.{row_rule, first_bad}
+use Rattle.tables.specs.Layout.{references}
 use Rattle.tables.specs.Image.{count_at}
-use Rattle.tables.specs.Columns.{set_selections}
+use Rattle.tables.specs.Columns.{set_selections, variable_type, variable_default}
+use Rattle.rows.specs.Rows.{good_variable}
 use Rattle.tables.specs.Numbering.{set_end, set_start}
+
+-- a variable whose type is there is good where its default is 0 or 1
+pub variable_default_decides : (image : List ℕ) (r : ℕ) → variable_type image r < count_at image references → {d : ℕ} → d ≡ variable_default image r → leb d 1 ≡ good_variable image r
+unfolding good_variable
+variable_default_decides image r h e = rw (lt-ltb _ _ h, e)
 
 pub start_first : (image : List ℕ) (s : ℕ) → s ≡ 0 → 0 ≡ set_start image s
 unfolding set_start
