@@ -3,9 +3,9 @@
 use native.Mathlib.Omega.{arith}
 use mathlib.Core.Path.{◌≡◌, refl, ◌∙◌}
 use mathlib.Core.List.{List}
-use Prim.Native.Nat.{ℕ, ◌+◌, ◌*◌}
-use Rattle.tables.specs.Image.{word_at}
+use Prim.Native.Nat.{ℕ}
 use Rattle.tables.specs.Layout.{sets}
+use Rattle.tables.proofs.Counts.{count_fits}
 use Rattle.reach.proofs.WalkLaws.{going_begins, going_on, going_ends}
 use Rattle.reach.specs.Reach.{Walk, reached_from, Walked}
 use Rattle.reach.proofs.walk_selections_with_deduped_fragments.Goals as goal
@@ -31,8 +31,7 @@ ended : {image s s' x : List ℕ} {n : ℕ} {w : Walk} → Walked image w s s' n
 ended walked e = rw e walked
 
 pub overflow_add-walked : goal.overflow_add-walked
-unfolding word_at
-overflow_add-walked c = omega (arith, c.type_inv.image (2 + 2 * sets))
+overflow_add-walked c = omega (arith, count_fits c.args.image.now (λ k. omega (arith, c.type_inv.image k)) sets)
 
 pub returns : goal.returns
 unfolding reached_from
