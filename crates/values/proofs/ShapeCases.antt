@@ -1,5 +1,5 @@
--- The shape of two types in each case that the code tells apart: so many steps suffice, one step of the comparison, and a law for
--- each `return` of the code.
+-- The shape of two types in each case that the code tells apart: what two kinds of references tell, so many steps suffice, one step of the
+-- comparison, and a law for each `return` of the code. No contract speaks of `both_wrappers`, which stands here alone.
 -- Assumes nothing.
 use Prim.Native.Nat.{ℕ, zero, suc, ◌<◌, ◌≤◌}
 use mathlib.Core.Path.{◌≡◌, refl, sym, ap, ◌∙◌}
@@ -8,21 +8,39 @@ use mathlib.Core.Bool.{Bool, true, false, cond, ◌&&◌}
 use mathlib.Core.List.{List}
 use native.Mathlib.Omega.{arith}
 use borrow.Author.Tests.{eq-eqb, ne_eqb, le-leb, lt-leb, lt-ltb, le-ltb, ltb-true}
-use lib.Dec.{leb, ltb}
+use lib.Dec.{eqb, leb, ltb}
 use Rattle.lists.proofs.Tests.{second_fails}
-use Rattle.tables.specs.Columns.{reference_kind, reference_child}
+use Rattle.tables.specs.Columns.{type_kind, reference_kind, reference_child, is_composite}
 use Rattle.values.specs.Shape.{is_leaf, are_names, are_lists, same_named, same_shape_in, same_shape}
 
 -- ---- two reference kinds
 
-module _ (left right : ℕ) where
-  unlike : (left ≡ right → ⊥) → (are_names left right ≡ false) × (are_lists left right ≡ false)
-  unfolding are_names are_lists
-  unlike ne = (rw (ne_eqb _ _ ne, second_fails (leb left 1) refl), rw (ne_eqb _ _ ne, second_fails (leb 2 left && leb left 3) refl))
+-- two references side by side: unlike in wrapper or nullability, two names, or two lists
+pub data Wrappers : Type 0 where
+  Unlike : Wrappers
+  Names : Wrappers
+  Lists : Wrappers
 
-  no_kind : 3 < left → (are_names left right ≡ false) × (are_lists left right ≡ false)
-  unfolding are_names are_lists
-  no_kind h = (rw (lt-leb left 1 (omega arith)), rw (le-leb 2 left (omega arith), lt-leb left 3 h))
+unfoldable pub both_wrappers : ℕ → ℕ → Wrappers
+both_wrappers left right = cond (are_names left right) Names (cond (are_lists left right) Lists Unlike)
+
+module _ (left right : ℕ) where
+  pub unlike : (left ≡ right → ⊥) → Unlike ≡ both_wrappers left right
+  unfolding both_wrappers are_names are_lists
+  unlike ne = rw (ne_eqb _ _ ne, second_fails (leb left 1) refl, second_fails (leb 2 left && leb left 3) refl)
+
+  pub no_kind : 3 < left → Unlike ≡ both_wrappers left right
+  unfolding both_wrappers are_names are_lists
+  no_kind h = rw (lt-leb left 1 (omega arith), le-leb 2 left (omega arith), lt-leb left 3 h)
+
+  told_unlike : both_wrappers left right ≡ Unlike → (are_names left right ≡ false) × (are_lists left right ≡ false)
+  unfolding both_wrappers
+  told_unlike = go (are_names left right) (are_lists left right)
+    where
+      go : (names lists : Bool) → cond names Names (cond lists Lists Unlike) ≡ Unlike → (names ≡ false) × (lists ≡ false)
+      go true lists e = let z : ◌≡◌ {A = ℕ} 0 1 = cc in absurd (omega arith)
+      go false true e = let z : ◌≡◌ {A = ℕ} 0 1 = cc in absurd (omega arith)
+      go false false e = (refl, refl)
 
   names : left ≡ right → left ≤ 1 → are_names left right ≡ true
   unfolding are_names
@@ -41,6 +59,23 @@ a_leaf kind e = ⊎_elim (λ h. rw h) (λ h. rw h) e
 pub no_leaf : (kind : ℕ) → ((kind ≡ 0) ⊎ (kind ≡ 4) → ⊥) → is_leaf kind ≡ false
 unfolding is_leaf
 no_leaf kind ne = rw (ne_eqb kind 0 (λ h. ne (inl h)), ne_eqb kind 4 (λ h. ne (inr h)))
+
+module _ (image : List ℕ) (left right : ℕ) {ours theirs : ℕ} (read : ours ≡ type_kind image left) (other : theirs ≡ type_kind image right) where
+  pub two_leaves : is_leaf ours ≡ true → is_leaf theirs ≡ true → eqb left right ≡ same_named image left right
+  unfolding same_named
+  two_leaves l r = rw (← read, ← other, l, r)
+
+  pub one_leaf : is_leaf ours ≡ true → is_leaf theirs ≡ false → false ≡ same_named image left right
+  unfolding same_named
+  one_leaf l r = rw (← read, ← other, l, r)
+
+  pub two_composites : is_leaf ours ≡ false → is_composite ours ≡ true → {b : Bool} → is_composite theirs ≡ b → b ≡ same_named image left right
+  unfolding same_named
+  two_composites n l r = rw (← read, ← other, n, l, r)
+
+  pub no_composite : is_leaf ours ≡ false → is_composite ours ≡ false → false ≡ same_named image left right
+  unfolding same_named
+  no_composite n l = rw (← read, ← other, n, l)
 
 -- ---- two references
 
@@ -83,10 +118,14 @@ module _ (image : List ℕ) where
   -- two references whose kinds were read
   module _ (l r : ℕ) {kind other : ℕ} (mine : kind ≡ reference_kind image l) (its : other ≡ reference_kind image r) where
     pub shape_unlike : (kind ≡ other → ⊥) → false ≡ same_shape image l r
-    shape_unlike ne = let h = unlike (reference_kind image l) (reference_kind image r) (λ e. ne (mine ∙ e ∙ sym its)) in rw (shape_step, h.0, h.1)
+    shape_unlike ne =
+        let h = told_unlike _ _ (sym (unlike (reference_kind image l) (reference_kind image r) (λ e. ne (mine ∙ e ∙ sym its)))) in
+        rw (shape_step, h.0, h.1)
 
     pub shape_no_kind : 3 < kind → false ≡ same_shape image l r
-    shape_no_kind over = let h = no_kind (reference_kind image l) (reference_kind image r) (omega arith) in rw (shape_step, h.0, h.1)
+    shape_no_kind over =
+        let h = told_unlike _ _ (sym (no_kind (reference_kind image l) (reference_kind image r) (omega arith))) in
+        rw (shape_step, h.0, h.1)
 
     -- two lists, of which the left's child is no earlier reference
     pub shape_endless : kind ≡ other → 2 ≤ kind → kind ≤ 3 → l ≤ reference_child image l → false ≡ same_shape image l r
