@@ -1,7 +1,7 @@
 -- The words behind the heights: what a walk that is lent them leaves, and what stays as it was. Assumes nothing.
 use Prim.Native.Nat.{ℕ, ◌+◌, ◌*◌, ◌-◌, ◌<◌, ◌≤◌, zero-le}
 use mathlib.Core.Path.{◌≡◌, refl, sym, ap, ◌∙◌}
-use mathlib.Core.Bool.{Bool, not}
+use mathlib.Core.Bool.{Bool, true, false, not}
 use mathlib.Core.List.{List, ◌++◌}
 use native.Mathlib.Nat.{le_refl}
 use native.Mathlib.Omega.{arith}
@@ -92,6 +92,14 @@ found_itself {image} {s} good room f known read e marked =
     let inside = fragment_set_in good f known in
     let own : Marked image (own_set image f) s = rw (← e) marked in
     mark_says image s f (own_set image f) own inside (read room inside)
+
+pub is_used : {image s : List ℕ} (good : Good image) (room : fragments_words image ≤ length s) (f : ℕ) (known : f < count_at image fragments) {r : Bool}
+    (read : fragments_words image ≤ length s → fragment_set image f < count_at image sets → r ≡ eqb (get_or s (behind image + fragment_set image f) 0) led)
+    → Marked image (operation_sets image) s → r ≡ true → is_unused image f ≡ false
+unfolding is_unused
+is_used {image} {s} good room f known read marked e =
+    let inside = fragment_set_in good f known in
+    rw (sym (mark_says image s f (operation_sets image) marked inside (read room inside)) ∙ e)
 
 pub unused_same : {image s : List ℕ} → Ready image s → Marked image (operation_sets image) s → (f : ℕ) → f < count_at image fragments
     → is_unused image f ≡ not (eqb (get_or s (behind image + fragment_set image f) 0) led)

@@ -1,6 +1,6 @@
 -- What `lowest` says, and a search of the rows. Assumes nothing.
 use Prim.Native.Nat.{ℕ, zero-le, ◌<◌, ◌≤◌}
-use mathlib.Core.Path.{◌≡◌, sym, ap}
+use mathlib.Core.Path.{◌≡◌, refl, sym, ap}
 use mathlib.Core.Bool.{Bool, true, false}
 use mathlib.Core.List.{List}
 use mathlib.Core.Option as math
@@ -64,6 +64,12 @@ module _ (n : ℕ) (fails : ℕ → Bool) (shows : ℕ → Refusal) (m : ℕ) (a
 pub none_cyclic : (image : List ℕ) → ((f : ℕ) → f < count_at image fragments → reaches_itself image f ≡ false) → math.none ≡ cycle_fault image
 unfolding cycle_fault
 none_cyclic image each = sym (none_fails _ _ _ each)
+
+-- so said of the place of the first, past which none is left
+pub a_cycle : (image : List ℕ) {n cyclic : ℕ} (all : n ≡ count_at image fragments) (lowest-cyclic : cyclic ≡ position (count_at image fragments) (reaches_itself image))
+    → cyclic < n → math.some (refusal 5 0 cyclic) ≡ fragments_fault image
+unfolding fragments_fault cycle_fault ◌▷◌
+a_cycle image all lowest-cyclic l = rw (lowest_fails _ _ (refusal 5 0) lowest-cyclic (omega arith))
 
 pub one_cyclic : (image : List ℕ) (f : ℕ) → f < count_at image fragments → ((k : ℕ) → k < f → reaches_itself image k ≡ false) → reaches_itself image f ≡ true → math.some (refusal 5 0 f) ≡ cycle_fault image
 unfolding cycle_fault
@@ -130,20 +136,30 @@ module _ (image : List ℕ) {m : ℕ} (all : m ≡ count_at image fragments) {r 
 
 -- ---- all kinds, each where those before it are absent
 
-pub a_cycle : (image : List ℕ) {shown : Refusal} → math.some shown ≡ cycle_fault image → math.some shown ≡ fragments_fault image
+pub cycle_first : (image : List ℕ) {shown : Refusal} → math.some shown ≡ cycle_fault image → math.some shown ≡ fragments_fault image
 unfolding fragments_fault ◌▷◌
-a_cycle image e = rw (← e)
+cycle_first image e = rw (← e)
+
+first_of_three : (a b c : math.Option Refusal) → (a ▷ b ▷ c) ≡ ((a ▷ b) ▷ c)
+unfolding ◌▷◌
+first_of_three math.none b c = refl
+first_of_three (math.some x) b c = refl
 
 module _ (image : List ℕ) (acyclic : cycle_fault image ≡ math.none) where
-  pub long_chain : {shown : Refusal} → math.some shown ≡ chain_fault image → math.some shown ≡ fragments_fault image
+  -- what the kinds after 5 show
+  limits_first : fragments_fault image ≡ ((chain_fault image ▷ (links_fault image ▷ nesting_fault image)) ▷ unused_fault image)
   unfolding fragments_fault ◌▷◌
-  long_chain e = rw (acyclic, ← e)
+  limits_first = rw acyclic (first_of_three (chain_fault image) (links_fault image ▷ nesting_fault image) (unused_fault image))
+
+  pub long_chain : {shown : Refusal} → math.some shown ≡ chain_fault image → math.some shown ≡ fragments_fault image
+  unfolding ◌▷◌
+  long_chain e = rw (limits_first, ← e)
 
   module _ (fine : math.none ≡ chain_fault image) where
     pub past_limits : {shown : Refusal} → math.some shown ≡ (links_fault image ▷ nesting_fault image) → math.some shown ≡ fragments_fault image
-    unfolding fragments_fault ◌▷◌
-    past_limits e = rw (acyclic, ← fine, ← e)
+    unfolding ◌▷◌
+    past_limits e = rw (limits_first, ← fine, ← e)
 
     pub used_or_not : {shown : math.Option Refusal} → math.none ≡ (links_fault image ▷ nesting_fault image) → shown ≡ unused_fault image → shown ≡ fragments_fault image
-    unfolding fragments_fault ◌▷◌
-    used_or_not low e = rw (acyclic, ← fine, ← low) e
+    unfolding ◌▷◌
+    used_or_not low e = rw (limits_first, ← fine, ← low) e
