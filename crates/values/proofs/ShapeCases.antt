@@ -33,14 +33,14 @@ module _ (left right : ℕ) where
   unfolding both_wrappers are_names are_lists
   no_kind h = rw (lt-leb left 1 (omega arith), le-leb 2 left (omega arith), lt-leb left 3 h)
 
-  told_unlike : both_wrappers left right ≡ Unlike → (are_names left right ≡ false) × (are_lists left right ≡ false)
-  unfolding both_wrappers
-  told_unlike = go (are_names left right) (are_lists left right)
-    where
-      go : (names lists : Bool) → cond names Names (cond lists Lists Unlike) ≡ Unlike → (names ≡ false) × (lists ≡ false)
-      go true lists e = let z : ◌≡◌ {A = ℕ} 0 1 = cc in absurd (omega arith)
-      go false true e = let z : ◌≡◌ {A = ℕ} 0 1 = cc in absurd (omega arith)
-      go false false e = (refl, refl)
+  -- the same of the two tests, as the code leans on it
+  neither : (left ≡ right → ⊥) → (are_names left right ≡ false) × (are_lists left right ≡ false)
+  unfolding are_names are_lists
+  neither ne = (rw (ne_eqb _ _ ne, second_fails (leb left 1) refl), rw (ne_eqb _ _ ne, second_fails (leb 2 left && leb left 3) refl))
+
+  neither_over : 3 < left → (are_names left right ≡ false) × (are_lists left right ≡ false)
+  unfolding are_names are_lists
+  neither_over h = (rw (lt-leb left 1 (omega arith)), rw (le-leb 2 left (omega arith), lt-leb left 3 h))
 
   names : left ≡ right → left ≤ 1 → are_names left right ≡ true
   unfolding are_names
@@ -118,14 +118,10 @@ module _ (image : List ℕ) where
   -- two references whose kinds were read
   module _ (l r : ℕ) {kind other : ℕ} (mine : kind ≡ reference_kind image l) (its : other ≡ reference_kind image r) where
     pub shape_unlike : (kind ≡ other → ⊥) → false ≡ same_shape image l r
-    shape_unlike ne =
-        let h = told_unlike _ _ (sym (unlike (reference_kind image l) (reference_kind image r) (λ e. ne (mine ∙ e ∙ sym its)))) in
-        rw (shape_step, h.0, h.1)
+    shape_unlike ne = let h = neither (reference_kind image l) (reference_kind image r) (λ e. ne (mine ∙ e ∙ sym its)) in rw (shape_step, h.0, h.1)
 
     pub shape_no_kind : 3 < kind → false ≡ same_shape image l r
-    shape_no_kind over =
-        let h = told_unlike _ _ (sym (no_kind (reference_kind image l) (reference_kind image r) (omega arith))) in
-        rw (shape_step, h.0, h.1)
+    shape_no_kind over = let h = neither_over (reference_kind image l) (reference_kind image r) (omega arith) in rw (shape_step, h.0, h.1)
 
     -- two lists, of which the left's child is no earlier reference
     pub shape_endless : kind ≡ other → 2 ≤ kind → kind ≤ 3 → l ≤ reference_child image l → false ≡ same_shape image l r
