@@ -114,12 +114,11 @@ impl Worklist<'_> {
     fn expand_selection(&mut self, row: u32)
         ensures { Goes (λ image. row ∷ []) self.old self.new }
     {
-        let target = selection_target(self.image, row);
         match selection_kind_of(selection_kind(self.image, row)) {
             Some(SelectionKind::Field) => self.list_field(row),
-            Some(SelectionKind::Inline) => self.queue_set(target),
+            Some(SelectionKind::Inline) => self.queue_set(selection_target(self.image, row)),
             // A spread: no other kind stands in a good image.
-            _ => self.queue_fragment(target),
+            _ => self.queue_fragment(selection_target(self.image, row)),
         }
     }
 

@@ -17,7 +17,11 @@ fn print_reply(rt: &impl Print, reply: &[u8]) -> io::Result<()> {
     let mut words = [0u32; 5];
     read_words(reply, &mut words, 5);
     let [kind, operation, a, b, used] = words;
-    println!(rt; "{kind} {operation} {a} {b} {used}")
+    print!(rt; "{kind} ")?;
+    print!(rt; "{operation} ")?;
+    print!(rt; "{a} ")?;
+    print!(rt; "{b} ")?;
+    println!(rt; "{used}")
 }
 
 // Fills the bytes from the input as far as it goes, and says how many there were. A read may give fewer than there is room for, and no

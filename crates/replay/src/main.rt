@@ -147,6 +147,7 @@ fn words_cleared(image: &[u32], work: u32, kind: u32) -> u64 {
     scratch_needed(image, work)
 }
 
+#[inline(always)]
 fn replay_check<W: Write>(
     out: &mut W,
     image: &[u32],
@@ -161,6 +162,7 @@ fn replay_check<W: Write>(
     print_reply(out, reply, kept)
 }
 
+#[inline(always)]
 fn replay<W: Write>(out: &mut W, case: Case, image: &[u32], scratch: &mut [u32]) -> io::Result<()> {
     match case.form {
         Form::Check => replay_check(out, image, case.given, scratch, case.scratch),

@@ -57,10 +57,10 @@ pub struct Cursor {
 
 // A list that stands in the words, linked.
 #[derive(Clone, Copy)]
-pub struct Listed<'i, 'w> {
+pub struct Listed<'i, 'w, 'a> {
     pub image: &'i [u32],
     pub words: &'w [u32],
-    pub arena: Arena,
+    pub arena: &'a Arena,
     pub list: Span,
 }
 
@@ -112,17 +112,17 @@ fn has_object_parent(image: &[u32], s: &[u32], row: u32) -> bool
     is_object(image, parent_of(s, row))
 }
 
-impl<'i, 'w> Listed<'i, 'w> {
+impl<'i, 'w, 'a> Listed<'i, 'w, 'a> {
     // Whether the field at a place has an object for its parent.
     fn has_object_parent(self, place: u32) -> bool
-        ensures { result ≡ has_object_parent self.entry.image.now self.entry.words.now (row_in self.entry.words.now self.entry.arena.store place) }
+        ensures { result ≡ has_object_parent self.entry.image.now self.entry.words.now (row_in self.entry.words.now self.entry.arena.now.store place) }
     {
         has_object_parent(self.image, self.words, self.arena.row_at(self.words, place))
     }
 
     // The next place of the same name; the list's end where there is none.
     fn next_of_name(self, place: u32) -> u32
-        ensures { result ≡ followed self.entry.words.now self.entry.arena Among.Every place self.entry.list.end }
+        ensures { result ≡ followed self.entry.words.now self.entry.arena.now Among.Every place self.entry.list.end }
     {
         self.arena
             .follow(self.words, Among::Every, place, self.list.end)
@@ -130,7 +130,7 @@ impl<'i, 'w> Listed<'i, 'w> {
 
     // The place of the first group from a place on; the list's end, or the place behind it, where there is none.
     fn find_group(self, from: u32) -> u32
-        ensures { result ≡ group_found self.entry.words.now self.entry.arena from self.entry.list.end }
+        ensures { result ≡ group_found self.entry.words.now self.entry.arena.now from self.entry.list.end }
     {
         for place in from..self.list.end {
             if self.arena.link_at(self.words, place, Link::FirstOfName) == place {
@@ -142,7 +142,7 @@ impl<'i, 'w> Listed<'i, 'w> {
 
     // Whether a field has an object for its parent, and is the first of its name and parent.
     fn opens_subgroup(self, place: u32) -> bool
-        ensures { result ≡ opens_at self.entry.image.now self.entry.words.now self.entry.arena place }
+        ensures { result ≡ opens_at self.entry.image.now self.entry.words.now self.entry.arena.now place }
     {
         self.has_object_parent(place)
             && self.arena.link_at(self.words, place, Link::FirstOfParent) == place
@@ -151,7 +151,7 @@ impl<'i, 'w> Listed<'i, 'w> {
     // The place of the first subgroup of an object parent in a group, from a place of the group on; the list's end, where links lead
     // to that. The loop follows links, and counts nothing. It differs from the next one in its test and its start.
     fn find_subgroup(self, from: u32) -> u32
-        ensures { FindsSubgroup self.entry.image.now self.entry.words.now self.entry.arena self.entry.list from result }
+        ensures { FindsSubgroup self.entry.image.now self.entry.words.now self.entry.arena.now self.entry.list from result }
     {
         let mut place = from;
         while place < self.list.end {
@@ -166,7 +166,7 @@ impl<'i, 'w> Listed<'i, 'w> {
     // The place of the first field of a group whose parent is no object; the list's end, where links lead to that. The loop follows
     // links, and counts nothing.
     fn find_others(self, group: u32) -> u32
-        ensures { FindsOthers self.entry.image.now self.entry.words.now self.entry.arena self.entry.list group result }
+        ensures { FindsOthers self.entry.image.now self.entry.words.now self.entry.arena.now self.entry.list group result }
     {
         let mut place = group;
         while place < self.list.end {
@@ -180,7 +180,7 @@ impl<'i, 'w> Listed<'i, 'w> {
 
     // A group's first subgroup: that of its first object parent, or all of it where there is none.
     fn first_subgroup(self, group: u32) -> Cursor
-        ensures { FirstSubgroup self.entry.image.now self.entry.words.now self.entry.arena self.entry.list group result }
+        ensures { FirstSubgroup self.entry.image.now self.entry.words.now self.entry.arena.now self.entry.list group result }
     {
         let others = self.find_others(group);
         let first = self.find_subgroup(group);
@@ -193,7 +193,7 @@ impl<'i, 'w> Listed<'i, 'w> {
 
     // The place of the next subgroup of the same group; the list's end where there is none.
     fn later_subgroup(self, cursor: Cursor) -> u32
-        ensures { LaterSubgroup self.entry.image.now self.entry.words.now self.entry.arena self.entry.list cursor result }
+        ensures { LaterSubgroup self.entry.image.now self.entry.words.now self.entry.arena.now self.entry.list cursor result }
     {
         if self.has_object_parent(cursor.first) {
             self.find_subgroup(self.next_of_name(cursor.first))
@@ -205,7 +205,7 @@ impl<'i, 'w> Listed<'i, 'w> {
     // The next subgroup of the group, if there is one, or the first of the next group.
     fn next_subgroup(self, cursor: Cursor) -> Cursor
         requires { cursor.group < self.list.end }
-        ensures { NextSubgroup self.entry.image.now self.entry.words.now self.entry.arena self.entry.list cursor result }
+        ensures { NextSubgroup self.entry.image.now self.entry.words.now self.entry.arena.now self.entry.list cursor result }
     {
         let first = self.later_subgroup(cursor);
         if first < self.list.end {
@@ -217,7 +217,7 @@ impl<'i, 'w> Listed<'i, 'w> {
 
     // A name group as a part: all fields of its name, from the first one on.
     fn group_part(self, group: u32) -> Part
-        ensures { result ≡ group_part self.entry.image.now self.entry.words.now self.entry.arena.store self.entry.list group }
+        ensures { result ≡ group_part self.entry.image.now self.entry.words.now self.entry.arena.now.store self.entry.list group }
     {
         let name = response_name(self.image, self.arena.row_at(self.words, group));
         let front = Segment {
@@ -235,7 +235,7 @@ impl<'i, 'w> Listed<'i, 'w> {
 
     // A subgroup as a part: the fields of its object parent, then those of interfaces and unions; or these alone.
     fn subgroup_part(self, cursor: Cursor) -> Part
-        ensures { result ≡ subgroup_part self.entry.image.now self.entry.words.now self.entry.arena.store self.entry.list cursor }
+        ensures { result ≡ subgroup_part self.entry.image.now self.entry.words.now self.entry.arena.now.store self.entry.list cursor }
     {
         let name = response_name(self.image, self.arena.row_at(self.words, cursor.group));
         let row = self.arena.row_at(self.words, cursor.first);
@@ -267,7 +267,7 @@ impl<'i, 'w> Listed<'i, 'w> {
 
     // A group as the pass goes over it: the shape pass takes it whole, the parent pass begins with its first subgroup.
     fn enter_group(self, pass: Pass, group: u32) -> Cursor
-        ensures { Enters self.entry.image.now self.entry.words.now self.entry.arena (is_shape pass) self.entry.list group result }
+        ensures { Enters self.entry.image.now self.entry.words.now self.entry.arena.now (is_shape pass) self.entry.list group result }
     {
         match pass {
             Pass::Shape => Cursor {
@@ -281,7 +281,7 @@ impl<'i, 'w> Listed<'i, 'w> {
 
     // The first part of the list.
     pub fn first_part(self, pass: Pass) -> Cursor
-        ensures { FirstPart self.entry.image.now self.entry.words.now self.entry.arena (is_shape pass) self.entry.list result }
+        ensures { FirstPart self.entry.image.now self.entry.words.now self.entry.arena.now (is_shape pass) self.entry.list result }
     {
         self.enter_group(pass, self.find_group(self.list.start))
     }
@@ -290,7 +290,7 @@ impl<'i, 'w> Listed<'i, 'w> {
     // the test that this function requires.
     pub fn next_part(self, pass: Pass, cursor: Cursor) -> Cursor
         requires { cursor.group < self.list.end }
-        ensures { NextPart self.entry.image.now self.entry.words.now self.entry.arena (is_shape pass) self.entry.list cursor result }
+        ensures { NextPart self.entry.image.now self.entry.words.now self.entry.arena.now (is_shape pass) self.entry.list cursor result }
     {
         match pass {
             Pass::Shape => self.enter_group(pass, self.find_group(cursor.group + 1)),
@@ -300,7 +300,7 @@ impl<'i, 'w> Listed<'i, 'w> {
 
     // The part at a cursor.
     pub fn part_at(self, pass: Pass, cursor: Cursor) -> Part
-        ensures { result ≡ part_in self.entry.image.now self.entry.words.now self.entry.arena.store self.entry.list (is_shape pass) cursor }
+        ensures { result ≡ part_in self.entry.image.now self.entry.words.now self.entry.arena.now.store self.entry.list (is_shape pass) cursor }
     {
         match pass {
             Pass::Shape => self.group_part(cursor.group),

@@ -293,15 +293,9 @@ impl Run {
         alone && filled_set(image, self.arena.row_at(s, part.first)).is_none()
     }
 
-    // A part that is compared, and its sets met. Kept out of the walk, whose every level would have the words of its locals on the stack.
+    // One part: compared, and its sets met. Kept out of the walk, whose every level would have the words of its locals on the stack.
     #[inline(never)]
-    fn meet_fields(
-        &self,
-        image: &[u32],
-        s: &mut [u32],
-        walk: Walk,
-        part: Part,
-    ) -> Result<Met, Reply>
+    fn meet_part(&self, image: &[u32], s: &mut [u32], walk: Walk, part: Part) -> Result<Met, Reply>
         requires { Ample self.now.work 0 walk }
         ensures meets { MeetsPart image.now self.now.arena self.now.work s.old s.new walk part (is_shape self.now.pass) (met_from walk result) }
         ensures ends { EndsMet result }
@@ -314,26 +308,19 @@ impl Run {
         self.meet_sets(image, s, walk, queued)
     }
 
-    // One part; one field without a set is passed over.
-    fn meet_part(&self, image: &[u32], s: &mut [u32], walk: Walk, part: Part) -> Result<Met, Reply>
-        requires { Ample self.now.work 0 walk }
-        ensures meets { MeetsPart image.now self.now.arena self.now.work s.old s.new walk part (is_shape self.now.pass) (met_from walk result) }
-        ensures ends { EndsMet result }
-    {
-        if self.is_bare(image, &s[..], part) {
-            return Ok(Met { walk, below: None });
-        }
-        self.meet_fields(image, s, walk, part)
-    }
-
     // A list as it stands in the words.
-    fn listed<'i, 'w>(&self, image: &'i [u32], s: &'w [u32], list: Span) -> Listed<'i, 'w>
-        ensures { (result.image.now ≡ image.now) × (result.words.now ≡ s.now) × (result.arena ≡ self.now.arena) × (result.list ≡ list) }
+    fn listed<'i, 'w, 'a>(
+        &'a self,
+        image: &'i [u32],
+        s: &'w [u32],
+        list: Span,
+    ) -> Listed<'i, 'w, 'a>
+        ensures { (result.image.now ≡ image.now) × (result.words.now ≡ s.now) × (result.arena.now ≡ self.now.arena) × (result.list ≡ list) }
     {
         Listed {
             image,
             words: s,
-            arena: self.arena,
+            arena: &self.arena,
             list,
         }
     }
@@ -358,8 +345,8 @@ impl Run {
         self.listed(image, s, list).next_part(self.pass, cursor)
     }
 
-    // The pass over a list, part by part, each with all that is below it: by groups the crate's same_response_shape_by_name, by subgroups
-    // its same_for_common_parents_by_name. `level` falls.
+    // The pass over a list, part by part, each with all that is below it: groups in the shape pass, subgroups in the parent pass. `level`
+    // falls.
     fn walk_list(
         &self,
         image: &[u32],
@@ -379,14 +366,74 @@ impl Run {
         let mut at = self.first_part(image, &s[..], list);
         while at.group < list.end {
             let part = self.part_at(image, &s[..], list, at);
-            let met = self.meet_part(image, s, next, part)?;
-            next = match met.below {
-                Some(below) => self.walk_list(image, s, met.walk, below, level - 1)?,
-                None => met.walk,
-            };
+            if !self.is_bare(image, &s[..], part) {
+                let met = self.meet_part(image, s, next, part)?;
+                next = match met.below {
+                    Some(below) => self.walk_list(image, s, met.walk, below, level - 1)?,
+                    None => met.walk,
+                };
+            }
             at = self.next_part(image, &s[..], list, at);
         }
         Ok(next)
+    }
+
+    // The shape pass over a list, group by group.
+    fn same_response_shape_by_name(
+        &self,
+        image: &[u32],
+        s: &mut [u32],
+        walk: Walk,
+        list: Span,
+        level: u32,
+    ) -> Result<Walk, Reply>
+        requires { Ample self.now.work 0 walk }
+        ensures walks { WalksList image.now self.now.arena self.now.work s.old s.new walk list true level (ended walk result) }
+        ensures ends { Ends result }
+    {
+        let run = Run {
+            pass: Pass::Shape,
+            ..*self
+        };
+        run.walk_list(image, s, walk, list, level)
+    }
+
+    // The parent pass over a list, subgroup by subgroup.
+    fn same_for_common_parents_by_name(
+        &self,
+        image: &[u32],
+        s: &mut [u32],
+        walk: Walk,
+        list: Span,
+        level: u32,
+    ) -> Result<Walk, Reply>
+        requires { Ample self.now.work 0 walk }
+        ensures walks { WalksList image.now self.now.arena self.now.work s.old s.new walk list false level (ended walk result) }
+        ensures ends { Ends result }
+    {
+        let run = Run {
+            pass: Pass::Parents,
+            ..*self
+        };
+        run.walk_list(image, s, walk, list, level)
+    }
+
+    // The run's pass over the operation's list.
+    fn walk_whole(
+        &self,
+        image: &[u32],
+        s: &mut [u32],
+        walk: Walk,
+        list: Span,
+    ) -> Result<Walk, Reply>
+        requires { Ample self.now.work 0 walk }
+        ensures walks { WalksList image.now self.now.arena self.now.work s.old s.new walk list (is_shape self.now.pass) 502 (ended walk result) }
+        ensures ends { Ends result }
+    {
+        match self.pass {
+            Pass::Shape => self.same_response_shape_by_name(image, s, walk, list, LEVELS),
+            Pass::Parents => self.same_for_common_parents_by_name(image, s, walk, list, LEVELS),
+        }
     }
 
     // The operation's own set is met, with no words of known lists.
@@ -424,7 +471,7 @@ impl Run {
         self.arena.registry().forget(s);
         let met = self.meet_operation(image, s, walk, operation)?;
         match met.below {
-            Some(list) => self.walk_list(image, s, met.walk, list, LEVELS),
+            Some(list) => self.walk_whole(image, s, met.walk, list),
             None => Ok(met.walk),
         }
     }

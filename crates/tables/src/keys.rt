@@ -22,7 +22,12 @@ pub fn key_of(image: &[u32], table: u8, row: u32) -> u32
 pub fn find_key(image: &[u32], table: u8, rows: Range, key: u32) -> Option<u32>
     ensures { result ≡ found rows.count (find rows.count (key_in image.now table rows) key) }
 {
-    (0..rows.count).find(|i| key_of(image, table, rows.row(*i)) == key)
+    for i in 0..rows.count {
+        if key_of(image, table, rows.row(i)) == key {
+            return Some(i);
+        }
+    }
+    None
 }
 
 // Whether no row of a range has that key.
@@ -36,8 +41,11 @@ pub fn is_key_absent(image: &[u32], table: u8, rows: Range, key: u32) -> bool
 pub fn are_keys_distinct(image: &[u32], table: u8, rows: Range) -> bool
     ensures { result ≡ distinct rows.count (key_in image.now table rows) }
 {
-    (0..rows.count).all(|i| {
+    for i in 0..rows.count {
         let key = key_of(image, table, rows.row(i));
-        find_key(image, table, rows, key) == Some(i)
-    })
+        if find_key(image, table, rows, key) != Some(i) {
+            return false;
+        }
+    }
+    true
 }

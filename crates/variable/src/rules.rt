@@ -11,7 +11,7 @@ ghost use Rattle.variable.specs.Verdict.{usage_shows, uses_fault, Judged};
 use crate::definitions::{validate_input_types, validate_unique_names};
 use crate::types::is_variable_usage_allowed;
 use crate::uses::{Tally, is_variable};
-use tables::columns::{operation_variables, value_atom};
+use tables::columns::{operation_variables, value_atom, value_kind};
 use tables::{ARGUMENTS, SETS, VALUES, VARIABLES, count};
 
 // What is wrong with an operation's variables, and the row that shows it.
@@ -46,7 +46,7 @@ impl Tally<'_, '_> {
     fn is_argument_allowed(&self, argument: u32) -> bool
         ensures { IsNamed self.now → result ≡ argument_allowed self.now.image.now self.now.variables argument }
     {
-        if !is_variable(self.image, argument) {
+        if !is_variable(value_kind(self.image, argument)) {
             return true;
         }
         match self.find_variable(value_atom(self.image, argument)) {

@@ -41,17 +41,17 @@ fn is_spread(selection: Selection) -> bool
     selection.kind == SelectionKind::Spread as u32
 }
 
-pub(crate) fn is_variable(image: &[u32], row: u32) -> bool
-    ensures { result ≡ eqb (value_kind image.now row) variable }
+pub(crate) fn is_variable(kind: u32) -> bool
+    ensures { result ≡ eqb kind variable }
 {
-    value_kind(image, row) == ValueKind::Variable as u32
+    kind == ValueKind::Variable as u32
 }
 
 // Whether a value has members: a list or an object. A word that is no kind counts as an object's.
-fn has_members(image: &[u32], row: u32) -> bool
-    ensures { result ≡ leb list (value_kind image.now row) }
+fn has_members(kind: u32) -> bool
+    ensures { result ≡ leb list kind }
 {
-    ValueKind::List as u32 <= value_kind(image, row)
+    ValueKind::List as u32 <= kind
 }
 
 // Word i of the `rows` that begin at a place; 0 past the last.
@@ -187,10 +187,11 @@ impl Tally<'_, '_> {
     fn variables_in_value(&mut self, row: u32)
         ensures { Does (λ image variables s s'. Searches image variables s s' (Steps image (use_value image variables row) s s')) self.old self.new }
     {
-        if is_variable(self.image, row) {
+        let kind = value_kind(self.image, row);
+        if is_variable(kind) {
             let i = self.find_variable(value_atom(self.image, row));
             self.mark_variable(i.unwrap_or(self.variables.count));
-        } else if has_members(self.image, row) {
+        } else if has_members(kind) {
             self.reach_range(value_members(self.image, row));
         }
     }

@@ -28,7 +28,7 @@ pub returns-in-Some-Inline : goal.returns-in-Some-Inline
 returns-in-Some-Inline c =
     let does = c.queue_set.ensures in
     let kind = sym c.selection_kind.ensures ∙ rw c.in-Some-Inline.field-0-is at c.in-Some-Inline.ensures in
-    record { same = does.same; steps = step_inline _ _ _ _ _ kind c.selection_target-target.ensures does.at does.words }
+    record { same = does.same; steps = step_inline _ _ _ _ _ kind c.selection_target.ensures does.at does.words }
 
 pub returns-in_default : goal.returns-in_default
 returns-in_default c =
@@ -40,6 +40,6 @@ returns-in_default c =
     let does = c.queue_fragment.ensures in
     record {
       same = does.same;
-      steps = step_spread _ _ _ _ _ _ (λ e. other.0 (c.selection_kind.ensures ∙ e)) (λ e. other.1 (c.selection_kind.ensures ∙ e)) c.selection_target-target.ensures
+      steps = step_spread _ _ _ _ _ _ (λ e. other.0 (c.selection_kind.ensures ∙ e)) (λ e. other.1 (c.selection_kind.ensures ∙ e)) c.selection_target.ensures
           does.at does.words;
     }

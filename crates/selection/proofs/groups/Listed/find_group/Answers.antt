@@ -17,7 +17,7 @@ opens s arena p = eqb (link_at s arena p 1) p
 pub returns-then-link_at-place : goal.returns-then-link_at-place
 returns-then-link_at-place c =
     let a = c.args in
-    seek_found (opens a.self.words.now a.self.arena) _ _ c.loop-place.place c.loop-place.invariant (omega arith) (eq-eqb _ _ (sym c.link_at.ensures ∙ c.if-link_at-place.true))
+    seek_found (opens a.self.words.now a.self.arena.now) _ _ c.loop-place.place c.loop-place.invariant (omega arith) (eq-eqb _ _ (sym c.link_at.ensures ∙ c.if-link_at-place.true))
 
 pub returns : goal.returns
 returns c =

@@ -5,4 +5,4 @@ use Rattle.selection.proofs.PlaceLaws.{Passed}
 use Rattle.selection.proofs.groups.Listed.find_group.Given as goal
 
 abbrev pub invariant-loop-place : goal.invariant-loop-place
-invariant-loop-place l = Passed (λ p. eqb (link_at l.self.words.now l.self.arena p 1) p) l.from l.self.list.end l.place
+invariant-loop-place l = Passed (λ p. eqb (link_at l.self.words.now l.self.arena.now p 1) p) l.from l.self.list.end l.place

@@ -4,7 +4,7 @@ use Rattle.selection.proofs.FollowLaws.{OnName, opens_of}
 use Rattle.selection.proofs.groups.Listed.find_subgroup.Given as goal
 
 abbrev pub invariant-loop-place : goal.invariant-loop-place
-invariant-loop-place l = OnName l.self.image.now l.self.words.now l.self.arena (opens_of l.self.image.now l.self.words.now l.self.arena) l.from l.self.list.end l.place
+invariant-loop-place l = OnName l.self.image.now l.self.words.now l.self.arena.now (opens_of l.self.image.now l.self.words.now l.self.arena.now) l.from l.self.list.end l.place
 
 abbrev pub decreases-loop-place : goal.decreases-loop-place
 decreases-loop-place l = l.self.list.end - l.place

@@ -8,9 +8,10 @@ use Rattle.std.specs.Prelude.{is_some}
 use Rattle.std.proofs.lemmas.Result.{err_from_is_err_and}
 use Rattle.selection.specs.Passes.{is_shape}
 use Rattle.selection.proofs.LoopLaws.{Stepped, stepped_flat, stepped_deeper, stepped_as, no_level, loop_stop, walks_stopped}
+use Rattle.selection.proofs.PartMeets.{part_bare}
 use Rattle.selection.proofs.StepLaws.{goes_down, part_first, part_turn, part_found, part_none}
 use Rattle.selection.proofs.walk.Run.+walk_list.Goals as goal
-use Rattle.selection.proofs.walk.Run.+walk_list.Goals.{in-None, in-Some+in_ok-next-in-Some}
+use Rattle.selection.proofs.walk.Run.+walk_list.Goals.{then-not-is_bare+in_ok-met+in-Some+in_ok-next-in-Some, then-not-is_bare+in_ok-met+in-None, else-not-is_bare}
 
 pub returns-then-level-eq0 : goal.returns-then-level-eq0
 returns-then-level-eq0 t c = record { walks = no_level _ _ _ _ _ _ _ _ c.if-level-eq0.true c.requires; ends = c.requires.going }
@@ -53,14 +54,18 @@ pub loop-at-preserved : goal.loop-at-preserved
 loop-at-preserved t c =
     let a = c.args in
     let at-loop = c.loop-at in
-    let met = c.in_ok-met.ensures in
-    let long = c.meet_part.auto.s in
-    let (step, go) : Stepped a.image.now a.self.now.arena a.self.now.work at-loop.s c.match-met.s at-loop.next c.part_at-part.result (is_shape a.self.now.pass) (a.level - 1) c.match-met.next × (c.match-met.next.reply.kind ≡ 0) =
-    elim c.match-met.branch [
-      | in-Some+in_ok-next-in-Some w ↦
+    let join = c.if-not-is_bare in
+    let (step, go) : Stepped a.image.now a.self.now.arena a.self.now.work at-loop.s join.s at-loop.next c.part_at-part.result (is_shape a.self.now.pass) (a.level - 1) join.next × (join.next.reply.kind ≡ 0) =
+    elim join.branch [
+      | then-not-is_bare+in_ok-met+in-Some+in_ok-next-in-Some w ↦
           let walked = w.in_ok-next-in-Some.ensures in
-          (stepped_as w.s-is w.next-is (stepped_deeper long met.meets w.in-Some.is walked.walks), ap (λ z. z.reply.kind) w.next-is ∙ walked.ends)
-      | in-None w ↦ (stepped_as w.s-is w.next-is (stepped_flat long met.meets (a.level - 1) (ap is_some w.in-None.is)), ap (λ z. z.reply.kind) w.next-is ∙ met.ends)
+          (stepped_as w.s-is w.next-is (stepped_deeper w.meet_part.auto.s w.in_ok-met.ensures.meets w.in-Some.is walked.walks), ap (λ z. z.reply.kind) w.next-is ∙ walked.ends)
+      | then-not-is_bare+in_ok-met+in-None w ↦
+          let met = w.in_ok-met.ensures in
+          (stepped_as w.s-is w.next-is (stepped_flat w.meet_part.auto.s met.meets (a.level - 1) (ap is_some w.in-None.is)), ap (λ z. z.reply.kind) w.next-is ∙ met.ends)
+      | else-not-is_bare w ↦
+          let bare = part_bare (is_shape a.self.now.pass) at-loop.invariant.ample c.is_bare.ensures w.if-not-is_bare.false in
+          (stepped_as w.s-is w.next-is (stepped_flat refl bare (a.level - 1) refl), ap (λ z. z.reply.kind) w.next-is ∙ at-loop.invariant.ample.going)
     ] in
     let turned = part_turn (is_shape a.self.now.pass) at-loop.at at-loop.invariant.loop at-loop.invariant.ample c.loop-at-test.true c.part_at-part.ensures step in
     record {
