@@ -368,10 +368,10 @@ impl Run {
             let part = self.part_at(image, &s[..], list, at);
             if !self.is_bare(image, &s[..], part) {
                 let met = self.meet_part(image, s, next, part)?;
-                next = match met.below {
-                    Some(below) => self.walk_list(image, s, met.walk, below, level - 1)?,
-                    None => met.walk,
-                };
+                next = met.walk;
+                if let Some(below) = met.below {
+                    next = self.walk_list(image, s, next, below, level - 1)?;
+                }
             }
             at = self.next_part(image, &s[..], list, at);
         }

@@ -40,6 +40,6 @@ returns-in_default c =
     let does = c.queue_fragment.ensures in
     record {
       same = does.same;
-      steps = step_spread _ _ _ _ _ _ (λ e. other.0 (c.selection_kind.ensures ∙ e)) (λ e. other.1 (c.selection_kind.ensures ∙ e)) c.selection_target.ensures
+      steps = step_spread _ _ _ _ _ _ (λ e. other.0 (c.selection_kind.ensures ∙ e)) (λ e. other.1 (c.selection_kind.ensures ∙ e)) c.selection_target-in_default.ensures
           does.at does.words;
     }

@@ -11,7 +11,7 @@ use Rattle.selection.proofs.LoopLaws.{Stepped, stepped_flat, stepped_deeper, ste
 use Rattle.selection.proofs.PartMeets.{part_bare}
 use Rattle.selection.proofs.StepLaws.{goes_down, part_first, part_turn, part_found, part_none}
 use Rattle.selection.proofs.walk.Run.+walk_list.Goals as goal
-use Rattle.selection.proofs.walk.Run.+walk_list.Goals.{then-not-is_bare+in_ok-met+in-Some+in_ok-next-in-Some, then-not-is_bare+in_ok-met+in-None, else-not-is_bare}
+use Rattle.selection.proofs.walk.Run.+walk_list.Goals.{then-not-is_bare+in_ok-met+in-Some+in_ok-next, then-not-is_bare+in_ok-met+in_default, else-not-is_bare}
 
 pub returns-then-level-eq0 : goal.returns-then-level-eq0
 returns-then-level-eq0 t c = record { walks = no_level _ _ _ _ _ _ _ _ c.if-level-eq0.true c.requires; ends = c.requires.going }
@@ -35,12 +35,12 @@ returns-in_err-met t c =
     (stepped_flat c.meet_part.auto.s met.meets (a.level - 1) refl) in
     rw (p.1, p.2) (record { walks = walks_stopped met.ends refl (le_refl _) (loop_stop turned a.level (omega (arith, c.if-level-eq0.false)) met.ends); ends = met.ends })
 
-pub returns-in_err-next-in-Some : goal.returns-in_err-next-in-Some
-returns-in_err-next-in-Some t c =
+pub returns-in_err-next : goal.returns-in_err-next
+returns-in_err-next t c =
     let a = c.args in
     let at-loop = c.loop-at in
-    let p = err_from_is_err_and c.from_residual-in_err-next-in-Some.result c.from_residual-in_err-next-in-Some.ensures.1 in
-    let walked = c.in_err-next-in-Some.ensures in
+    let p = err_from_is_err_and c.from_residual-in_err-next.result c.from_residual-in_err-next.ensures.1 in
+    let walked = c.in_err-next.ensures in
     let turned = part_turn (is_shape a.self.now.pass) at-loop.at at-loop.invariant.loop at-loop.invariant.ample c.loop-at-test.true c.part_at-part.ensures
     (stepped_deeper c.meet_part.auto.s c.in_ok-met.ensures.meets c.in-Some.is walked.walks) in
     rw (p.1, p.2) (record { walks = walks_stopped walked.ends refl (le_refl _) (loop_stop turned a.level (omega (arith, c.if-level-eq0.false)) walked.ends); ends = walked.ends })
@@ -57,12 +57,12 @@ loop-at-preserved t c =
     let join = c.if-not-is_bare in
     let (step, go) : Stepped a.image.now a.self.now.arena a.self.now.work at-loop.s join.s at-loop.next c.part_at-part.result (is_shape a.self.now.pass) (a.level - 1) join.next × (join.next.reply.kind ≡ 0) =
     elim join.branch [
-      | then-not-is_bare+in_ok-met+in-Some+in_ok-next-in-Some w ↦
-          let walked = w.in_ok-next-in-Some.ensures in
+      | then-not-is_bare+in_ok-met+in-Some+in_ok-next w ↦
+          let walked = w.in_ok-next.ensures in
           (stepped_as w.s-is w.next-is (stepped_deeper w.meet_part.auto.s w.in_ok-met.ensures.meets w.in-Some.is walked.walks), ap (λ z. z.reply.kind) w.next-is ∙ walked.ends)
-      | then-not-is_bare+in_ok-met+in-None w ↦
+      | then-not-is_bare+in_ok-met+in_default w ↦
           let met = w.in_ok-met.ensures in
-          (stepped_as w.s-is w.next-is (stepped_flat w.meet_part.auto.s met.meets (a.level - 1) (ap is_some w.in-None.is)), ap (λ z. z.reply.kind) w.next-is ∙ met.ends)
+          (stepped_as w.s-is w.next-is (stepped_flat w.meet_part.auto.s met.meets (a.level - 1) (ap is_some w.in_default.is)), ap (λ z. z.reply.kind) w.next-is ∙ met.ends)
       | else-not-is_bare w ↦
           let bare = part_bare (is_shape a.self.now.pass) at-loop.invariant.ample c.is_bare.ensures w.if-not-is_bare.false in
           (stepped_as w.s-is w.next-is (stepped_flat refl bare (a.level - 1) refl), ap (λ z. z.reply.kind) w.next-is ∙ at-loop.invariant.ample.going)
