@@ -29,7 +29,7 @@ extern "C" {
    reply, reply_bytes   where the reply goes: exactly 20 bytes, five little-endian words (kind, operation, a, b, used).
    returns              1: the reply is written. 0: reply_bytes is not 20, and nothing is written.
 
-   It takes no memory but the caller's stack: 190,808 bytes of a thread's stack on the deepest images known, of which 98,304 are arrays
+   It takes no memory but the caller's stack: 167,104 bytes of a thread's stack on the deepest images known, of which 98,304 are arrays
    for the image and the scratch. That is measured (compare/faults/stack.c), not proved. PONYBLUSTER_STACK bytes suffice for a thread. */
 uint32_t check_query(const uint8_t *image, size_t image_bytes, uint32_t budget, uint8_t *reply, size_t reply_bytes);
 
@@ -43,7 +43,7 @@ uint32_t check_query(const uint8_t *image, size_t image_bytes, uint32_t budget, 
    reply, reply_words       where the reply goes: exactly 5 words (kind, operation, a, b, used).
    returns                  1: the reply is written. 0: reply_words is not 5, and nothing is written.
 
-   It takes 92,488 bytes of a thread's stack on the deepest images known, and no other memory. PONYBLUSTER_STACK_LENT bytes suffice. */
+   It takes 68,784 bytes of a thread's stack on the deepest images known, and no other memory. PONYBLUSTER_STACK_LENT bytes suffice. */
 uint32_t check_query_lent(const uint32_t *image, size_t image_words, uint32_t budget, uint32_t *scratch, size_t scratch_words,
                           uint32_t *reply, size_t reply_words);
 

@@ -60,7 +60,7 @@ pub const STACK: usize = 192 * 1024;
 pub const STACK_LENT: usize = 96 * 1024;
 
 /// Checks an image that is given as bytes, little-endian words, at most 32,768 bytes (else kind 18). The scratch inside bears a
-/// budget of 1536 at most, and less the more rows the image has (else kind 3). Takes up to 190,808 bytes of stack on the deepest
+/// budget of 1536 at most, and less the more rows the image has (else kind 3). Takes up to 167,104 bytes of stack on the deepest
 /// images known, by measuring: [`STACK`] bytes suffice for a thread.
 pub fn check(image: &[u8], budget: u32) -> Reply {
     let mut reply = [0u8; 20];
@@ -84,7 +84,7 @@ pub fn check(image: &[u8], budget: u32) -> Reply {
 
 /// Checks an image of any length that is given as words, with scratch that the caller lends. Too little scratch is kind 3, and `a`
 /// says how many words it takes; see [`scratch_needed`]. What lies in the scratch changes no answer. Afterwards it is untouched on
-/// kinds 1 to 3; on others the words needed are 0 and those beyond are untouched. Takes up to 92,488 bytes of stack on the deepest
+/// kinds 1 to 3; on others the words needed are 0 and those beyond are untouched. Takes up to 68,784 bytes of stack on the deepest
 /// images known: [`STACK_LENT`] bytes suffice for a thread.
 pub fn check_words(image: &[u32], budget: u32, scratch: &mut [u32]) -> Reply {
     let mut reply = [0u32; 5];
