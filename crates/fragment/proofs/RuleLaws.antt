@@ -65,7 +65,7 @@ pub none_cyclic : (image : List ℕ) → ((f : ℕ) → f < count_at image fragm
 unfolding cycle_fault
 none_cyclic image each = sym (none_fails _ _ _ each)
 
--- so said of the place of the first, past which none is left
+-- the same, of the place where a search for the first such fragment ended
 pub a_cycle : (image : List ℕ) {n cyclic : ℕ} (all : n ≡ count_at image fragments) (lowest-cyclic : cyclic ≡ position (count_at image fragments) (reaches_itself image))
     → cyclic < n → math.some (refusal 5 0 cyclic) ≡ fragments_fault image
 unfolding fragments_fault cycle_fault ◌▷◌
@@ -146,7 +146,7 @@ first_of_three math.none b c = refl
 first_of_three (math.some x) b c = refl
 
 module _ (image : List ℕ) (acyclic : cycle_fault image ≡ math.none) where
-  -- what the kinds after 5 show
+  -- without a cycle the fault is that of the kinds after 5
   limits_first : fragments_fault image ≡ ((chain_fault image ▷ (links_fault image ▷ nesting_fault image)) ▷ unused_fault image)
   unfolding fragments_fault ◌▷◌
   limits_first = rw acyclic (first_of_three (chain_fault image) (links_fault image ▷ nesting_fault image) (unused_fault image))

@@ -147,7 +147,7 @@ fn words_cleared(image: &[u32], work: u32, kind: u32) -> u64 {
     scratch_needed(image, work)
 }
 
-// Inlined, as the next function is: in `main` the compiler knows how long the scratch is, and that no store in it changes the image.
+// Inlined, as the next function is: in `main` the compiler knows that the scratch has n words, and the loops over it need no test of each place.
 #[inline(always)]
 fn replay_check<W: Write>(
     out: &mut W,

@@ -418,21 +418,22 @@ impl Run {
         run.walk_list(image, s, walk, list, level)
     }
 
-    // The run's pass over the operation's list.
-    fn walk_whole(
+    // The run's own pass over a list.
+    fn walk_pass(
         &self,
         image: &[u32],
         s: &mut [u32],
         walk: Walk,
         list: Span,
+        level: u32,
     ) -> Result<Walk, Reply>
         requires { Ample self.now.work 0 walk }
-        ensures walks { WalksList image.now self.now.arena self.now.work s.old s.new walk list (is_shape self.now.pass) 502 (ended walk result) }
+        ensures walks { WalksList image.now self.now.arena self.now.work s.old s.new walk list (is_shape self.now.pass) level (ended walk result) }
         ensures ends { Ends result }
     {
         match self.pass {
-            Pass::Shape => self.same_response_shape_by_name(image, s, walk, list, LEVELS),
-            Pass::Parents => self.same_for_common_parents_by_name(image, s, walk, list, LEVELS),
+            Pass::Shape => self.same_response_shape_by_name(image, s, walk, list, level),
+            Pass::Parents => self.same_for_common_parents_by_name(image, s, walk, list, level),
         }
     }
 
@@ -471,7 +472,7 @@ impl Run {
         self.arena.registry().forget(s);
         let met = self.meet_operation(image, s, walk, operation)?;
         match met.below {
-            Some(list) => self.walk_whole(image, s, met.walk, list),
+            Some(list) => self.walk_pass(image, s, met.walk, list, LEVELS),
             None => Ok(met.walk),
         }
     }

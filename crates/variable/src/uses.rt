@@ -4,7 +4,7 @@
 ghost use Rattle.std.specs.Prelude.{◌≡◌, ◌+◌, ◌^◌, ◌<◌, cond, eqb, leb, ltb, get_or};
 ghost use Rattle.tables.specs.Layout.{sets};
 ghost use Rattle.tables.specs.Image.{count_at};
-ghost use Rattle.tables.specs.Columns.{spread, variable, list, value_kind};
+ghost use Rattle.tables.specs.Columns.{spread, variable, list};
 ghost use Rattle.reach.specs.Reach.{walk_words};
 ghost use Rattle.variable.specs.Uses.{reach_range, reach_selection, reach_set, mark_variable, use_value, mark_variables, marks_at, end_in, mark_in, Steps, Queued, Reached, Passes};
 ghost use Rattle.variable.specs.Names.{Searches};

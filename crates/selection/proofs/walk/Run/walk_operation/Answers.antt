@@ -15,9 +15,9 @@ returns-in_err-met c =
 pub returns-in-Some : goal.returns-in-Some
 returns-in-Some c =
     let met = c.in_ok-met.ensures in
-    let walked = c.walk_whole.ensures in
+    let walked = c.walk_pass.ensures in
     record {
-      runs = runs_from c.in_ok-met.met.walk c.walk_whole.result walked.ends
+      runs = runs_from c.in_ok-met.met.walk c.walk_pass.result walked.ends
           (pass_deeper (is_shape c.args.self.now.pass) (rw c.registry.ensures at c.forget.ensures) (c.meet_operation.auto.s ∙ c.forget.auto.s) met.meets c.in-Some.is walked.walks);
       ends = walked.ends;
     }
